@@ -1,19 +1,35 @@
-// Tags.
+// Tags: points of logical time, their order, and what a delay does to them.
 ghost use mathlib.Core.Path.{_≡_};
-ghost use lib.Dec.{leb};
-ghost use Rattle.tags.specs.Rank.{rank, Fit};
-ghost use Rattle.tags.specs.Tags.{predOf, lessOf, delayOf, tagLe, leastOf, greatestOf};
+ghost use Rattle.tags.specs.Tags.{predOf, lessOf, delayOf, tagLe, tagBefore, sameTag, leastOf, greatestOf, wordsOf, toldBy};
 
+// A point of logical time: before all others, an offset with a microstep, or after all others.
 pub enum Tag {
     Never,
     Finite(u64, u64),
     Forever,
 }
 
+// A delayed tag, or that its offset passes 2^64-1.
 pub enum Delayed {
     To(Tag),
     TooFar,
 }
+
+// A tag as three words: class 0 NEVER, 1 finite, 2 FOREVER; offset and microstep are 0 outside class 1.
+pub struct Words {
+    pub class: u64,
+    pub offset: u64,
+    pub microstep: u64,
+}
+
+// The tag that three words say, or that they say none.
+pub enum Told {
+    Is(Tag),
+    Unknown,
+}
+
+// M, the largest microstep and the largest offset.
+const TOP: u64 = 18446744073709551615;
 
 impl Tag {
     pub const NEVER: Tag = Tag::Never;
@@ -22,12 +38,7 @@ impl Tag {
 
     pub const FOREVER: Tag = Tag::Forever;
 
-    pub fn never() -> Tag
-        ensures { λ r. ⌜ r ≡ Tag.Never ⌝ }
-    {
-        Tag::NEVER
-    }
-
+    // The greatest tag before this one; the ends stay.
     pub fn predecessor(self) -> Tag
         ensures { λ r. ⌜ r ≡ predOf self ⌝ }
     {
@@ -38,7 +49,7 @@ impl Tag {
                     return Tag::Finite(o, m - 1);
                 }
                 if o > 0 {
-                    return Tag::Finite(o - 1, 18446744073709551615);
+                    return Tag::Finite(o - 1, TOP);
                 }
                 Tag::NEVER
             }
@@ -46,6 +57,7 @@ impl Tag {
         }
     }
 
+    // The latest tag that, delayed by d, is at or before this one.
     pub fn subtract(self, d: u64) -> Tag
         ensures { λ r. ⌜ r ≡ lessOf self d ⌝ }
     {
@@ -56,7 +68,7 @@ impl Tag {
                     return Tag::Finite(o, m);
                 }
                 if d <= o {
-                    return Tag::Finite(o - d, 18446744073709551615);
+                    return Tag::Finite(o - d, TOP);
                 }
                 Tag::NEVER
             }
@@ -64,6 +76,7 @@ impl Tag {
         }
     }
 
+    // This tag seen over a delay of d.
     pub fn delay(self, d: u64) -> Delayed
         ensures { λ r. ⌜ r ≡ delayOf self d ⌝ }
     {
@@ -73,7 +86,7 @@ impl Tag {
                 if d == 0 {
                     return Delayed::To(Tag::Finite(o, m));
                 }
-                if o <= 18446744073709551615 - d {
+                if o <= TOP - d {
                     return Delayed::To(Tag::Finite(o + d, 0));
                 }
                 Delayed::TooFar
@@ -82,6 +95,7 @@ impl Tag {
         }
     }
 
+    // Whether this tag comes first or both are the same.
     pub fn at_or_before(self, other: Tag) -> bool
         ensures { λ r. ⌜ r ≡ tagLe self other ⌝ }
     {
@@ -108,23 +122,24 @@ impl Tag {
         }
     }
 
-    // The same by ranks, and that a tag of the code fits.
-    pub fn not_after(self, other: Tag) -> bool
-        ensures { λ r. ⌜ r ≡ leb (rank self) (rank other) ⌝ }
+    // Whether this tag comes first.
+    pub fn before(self, other: Tag) -> bool
+        ensures { λ r. ⌜ r ≡ tagBefore self other ⌝ }
     {
-        self.at_or_before(other)
+        !other.at_or_before(self)
     }
 
-    pub fn fits(self) -> Tag
-        ensures { λ r. ⌜ (r ≡ self) × Fit r ⌝ }
+    // Whether both are the same tag.
+    pub fn equal(self, other: Tag) -> bool
+        ensures { λ r. ⌜ r ≡ sameTag self other ⌝ }
     {
-        match self {
-            Tag::Never => Tag::NEVER,
-            Tag::Finite(o, m) => Tag::Finite(o, m),
-            Tag::Forever => Tag::FOREVER,
+        if self.at_or_before(other) {
+            return other.at_or_before(self);
         }
+        false
     }
 
+    // The earlier of the two.
     pub fn least(self, other: Tag) -> Tag
         ensures { λ r. ⌜ r ≡ leastOf self other ⌝ }
     {
@@ -135,6 +150,7 @@ impl Tag {
         }
     }
 
+    // The later of the two.
     pub fn greatest(self, other: Tag) -> Tag
         ensures { λ r. ⌜ r ≡ greatestOf self other ⌝ }
     {
@@ -143,5 +159,51 @@ impl Tag {
         } else {
             self
         }
+    }
+
+    // The tag as class, offset and microstep.
+    pub fn words(self) -> Words
+        ensures { λ r. ⌜ r ≡ wordsOf self ⌝ }
+    {
+        match self {
+            Tag::Never => Words {
+                class: 0,
+                offset: 0,
+                microstep: 0,
+            },
+            Tag::Finite(o, m) => Words {
+                class: 1,
+                offset: o,
+                microstep: m,
+            },
+            Tag::Forever => Words {
+                class: 2,
+                offset: 0,
+                microstep: 0,
+            },
+        }
+    }
+
+    // The tag that class, offset and microstep say. Any other class, or an offset or microstep that is not 0 outside
+    // class 1, says none.
+    pub fn told(class: u64, offset: u64, microstep: u64) -> Told
+        ensures { λ r. ⌜ r ≡ toldBy class offset microstep ⌝ }
+    {
+        if class == 1 {
+            return Told::Is(Tag::Finite(offset, microstep));
+        }
+        if offset != 0 {
+            return Told::Unknown;
+        }
+        if microstep != 0 {
+            return Told::Unknown;
+        }
+        if class == 0 {
+            return Told::Is(Tag::NEVER);
+        }
+        if class == 2 {
+            return Told::Is(Tag::FOREVER);
+        }
+        Told::Unknown
     }
 }

@@ -1,19 +1,20 @@
--- The order's laws with no bound on a tag, by cases.
+-- The order of tags: total, transitive, antisymmetric, with NEVER least and FOREVER greatest.
 -- Assumes nothing.
 use Prim.Native.Nat.{ℕ, _+_, _*_, _-_, _<_, _≤_}
 use mathlib.Core.Path.{_≡_, refl, sym, ap, _∙_}
 use mathlib.Core.Bool.{Bool, true, false}
-use mathlib.Core.Logic.{_⊎_, inl, inr, ⊎-elim}
+use mathlib.Core.Logic.{_⊎_, inl, inr}
 use native.Mathlib.Omega.{arith}
 use lib.Dec.{ltb, leb, eqb}
 use borrow.Author.Tests.{ltb-true, ltb-false, leb-true, leb-false, le-leb, lt-leb, lt-ltb, le-ltb}
 use Rattle.tags.specs.declared.Tag.{Tag}
 use Rattle.tags.specs.declared.Tag.the-variants.{Never, Finite, Forever}
-use Rattle.tags.specs.Tags.{lexLe, tagLe, leastOf}
+use Rattle.tags.specs.Tags.{lexLe, tagLe, tagBefore, sameTag, leastOf, greatestOf}
 
-clash : {A : Type 0} → false ≡ true → A
+pub clash : {A : Type 0} → false ≡ true → A
 clash {A} e = let z : _≡_ {A = ℕ} 0 1 = cc in absurd (omega arith)
 
+-- ---- finite tags, as numbers
 abbrev pub Lex : ℕ → ℕ → ℕ → ℕ → Type 0
 Lex o m p n = (o < p) ⊎ ((o ≡ p) × (m ≤ n))
 
@@ -35,6 +36,7 @@ join o m p n q k (inl a) (inr b) = inl (omega arith)
 join o m p n q k (inr a) (inl b) = inl (omega arith)
 join o m p n q k (inr a) (inr b) = inr (omega arith)
 
+-- ---- the order
 pub trans : (x y z : Tag) → tagLe x y ≡ true → tagLe y z ≡ true → tagLe x z ≡ true
 trans Never y z p q = refl
 trans (Finite o m) Never z p q = clash p
@@ -67,6 +69,44 @@ total Forever Never e = refl
 total Forever (Finite p n) e = refl
 total Forever Forever e = clash (sym e)
 
+level : (o m p n : ℕ) → Lex o m p n → Lex p n o m → Finite o m ≡ Finite p n
+level o m p n (inl a) (inl b) = absurd (omega arith)
+level o m p n (inl a) (inr b) = absurd (omega arith)
+level o m p n (inr a) (inl b) = absurd (omega arith)
+level o m p n (inr a) (inr b) = let h : m ≡ n = omega arith in rw (a .0, h)
+
+pub antisymmetric : (x y : Tag) → tagLe x y ≡ true → tagLe y x ≡ true → x ≡ y
+antisymmetric Never Never p q = refl
+antisymmetric Never (Finite o m) p q = clash q
+antisymmetric Never Forever p q = clash q
+antisymmetric (Finite o m) Never p q = clash p
+antisymmetric (Finite o m) (Finite p′ n) p q = level o m p′ n (lex o m p′ n p) (lex p′ n o m q)
+antisymmetric (Finite o m) Forever p q = clash q
+antisymmetric Forever Never p q = clash p
+antisymmetric Forever (Finite o m) p q = clash p
+antisymmetric Forever Forever p q = refl
+
+-- NEVER is least, FOREVER greatest.
+pub never-least : (x : Tag) → tagLe Never x ≡ true
+never-least x = refl
+
+pub forever-greatest : (x : Tag) → tagLe x Forever ≡ true
+forever-greatest Never = refl
+forever-greatest (Finite o m) = refl
+forever-greatest Forever = refl
+
+-- ---- two tags are the same exactly if `sameTag` says so
+same-by : (x y : Tag) (b : Bool) → tagLe x y ≡ b → sameTag x y ≡ true → x ≡ y
+same-by x y true e h = antisymmetric x y e (rw e at h)
+same-by x y false e h = clash (rw e at h)
+
+pub same : (x y : Tag) → sameTag x y ≡ true → x ≡ y
+same x y h = same-by x y (tagLe x y) refl h
+
+pub same-itself : (x : Tag) → sameTag x x ≡ true
+same-itself x = rw reflexive
+
+-- ---- least and greatest
 left-by : (x y : Tag) (b : Bool) → tagLe x y ≡ b → tagLe (leastOf x y) x ≡ true
 left-by x y true e = rw e (reflexive x)
 left-by x y false e = rw e (total x y e)
