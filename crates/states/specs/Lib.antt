@@ -1,0 +1,4 @@
+pub mod Records
+pub mod Sessions
+pub mod Rules
+pub mod Steps
