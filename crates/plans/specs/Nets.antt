@@ -31,8 +31,9 @@ pub record Net : Type 0 where
 unfoldable pub downstream : Net → ℕ → ℕ → Bool
 downstream p i j = both (ltb (p .minimum i j) none) (not (eqb j i))
 
--- what the analysis promises of a net
+-- what the analysis promises of a net, of the members that it has
 pub record Lawful (p : Net) : Type 0 where
-  pub triangle : (s u t : ℕ) → p .minimum s u < none → p .minimum u t < none → p .minimum s t ≤ p .minimum s u + p .minimum u t
-  pub no-zero-cycle : (i : ℕ) → p .minimum i i ≡ 0 → ⊥
-  pub direct-least : (s t : ℕ) → p .minimum s t ≤ p .direct s t
+  pub triangle : (s u t : ℕ) → s < p .count → u < p .count → t < p .count → p .minimum s u < none → p .minimum u t < none
+      → p .minimum s t ≤ p .minimum s u + p .minimum u t
+  pub no-zero-cycle : (i : ℕ) → i < p .count → p .minimum i i ≡ 0 → ⊥
+  pub direct-least : (s t : ℕ) → s < p .count → t < p .count → p .minimum s t ≤ p .direct s t

@@ -1,0 +1,13 @@
+pub mod Walks
+pub mod Cells
+pub mod Rounds
+pub mod Cycles
+pub mod Reaches
+pub mod Plans
+pub mod Search
+pub mod Refusals
+pub mod Bits
+pub mod Order
+pub mod Found
+pub mod Lists
+pub mod Marked

@@ -1,0 +1,5 @@
+pub mod Graph
+pub mod Cells
+pub mod Search
+pub mod Refusals
+pub mod Lists
