@@ -1,4 +1,5 @@
 -- Cycles of no delay: which members lie on one, and the strong component of the first.
+-- Assumes nothing.
 use mathlib.Core.Path.{_≡_, refl, sym, subst}
 use mathlib.Core.Logic.{_↔_}
 use mathlib.Core.List.{List}

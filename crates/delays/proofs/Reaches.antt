@@ -1,4 +1,5 @@
 -- The same recursion on `Reach` itself, as a reader may want it, and that it is the view of the numbers.
+-- Assumes nothing.
 use mathlib.Core.Path.{_≡_, refl, sym, ap, ap₂, _∙_}
 use mathlib.Core.Logic.{_⊎_, ⊎-elim, inl, inr}
 use mathlib.Core.List.{List}

@@ -1,4 +1,5 @@
 -- `via` is the least over walks.
+-- Assumes nothing.
 use mathlib.Core.Bool.{Bool, true, false}
 use mathlib.Core.Path.{_≡_, refl, sym, subst, ap, _∙_}
 use mathlib.Core.Logic.{_⊎_, ⊎-elim, inl, inr, _↔_}

@@ -390,7 +390,7 @@ fn accept() -> Refusal
 }
 
 // Refusal 8 of a matrix of minimum delays, with the mask of the component, or none.
-fn cycle_refusal(kind: &[u8], value: &[u64], n: usize) -> Refusal
+pub fn cycle_refusal(kind: &[u8], value: &[u64], n: usize) -> Refusal
     requires { ⌜ (length (now kind) ≡ 1024) × (length (now value) ≡ 1024) × (n ≤ 32) ⌝ }
     ensures { λ r. ⌜ r ≡ cycleOf (grid (now (kind .entry)) (now (value .entry))) n ⌝ }
 {
@@ -407,7 +407,7 @@ fn cycle_refusal(kind: &[u8], value: &[u64], n: usize) -> Refusal
 }
 
 // Refusal 9 of a matrix of minimum delays, with the ids of the first source and its first target, or none.
-fn far_refusal(kind: &[u8], value: &[u64], ids: &[u64], n: usize) -> Refusal
+pub fn far_refusal(kind: &[u8], value: &[u64], ids: &[u64], n: usize) -> Refusal
     requires { ⌜ (length (now kind) ≡ 1024) × (length (now value) ≡ 1024) × (n ≤ 32) × (length (now ids) ≡ 32) ⌝ }
     ensures { λ r. ⌜ r ≡ farOf (grid (now (kind .entry)) (now (value .entry))) (now (ids .entry)) n ⌝ }
 {
@@ -425,7 +425,7 @@ fn far_refusal(kind: &[u8], value: &[u64], ids: &[u64], n: usize) -> Refusal
 }
 
 // The first of both refusals, or none.
-fn judge(kind: &[u8], value: &[u64], ids: &[u64], n: usize) -> Refusal
+pub fn judge(kind: &[u8], value: &[u64], ids: &[u64], n: usize) -> Refusal
     requires { ⌜ (length (now kind) ≡ 1024) × (length (now value) ≡ 1024) × (n ≤ 32) × (length (now ids) ≡ 32) ⌝ }
     ensures { λ r. ⌜ r ≡ judged (grid (now (kind .entry)) (now (value .entry))) (now (ids .entry)) n ⌝ }
 {

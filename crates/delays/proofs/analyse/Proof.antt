@@ -3,45 +3,31 @@ use mathlib.Core.Path.{_≡_, _∙_}
 use Rattle.delays.proofs.Refusals.{judged-held}
 use Rattle.delays.proofs.analyse.Statement.{statement}
 use Rattle.delays.proofs.analyse.Tie as tie
-use Rattle.delays.proofs.analyse.Reads as reads
-use Rattle.delays.proofs.analyse.Lts as lts
-use Rattle.delays.proofs.direct_delays.Reads as direct-delays-reads
-use Rattle.delays.proofs.judge.Reads as judge-reads
-use Rattle.delays.proofs.minimum_delays.Reads as minimum-delays-reads
 
--- src/lib.rt:426:5
 direct-delays-requires : tie.Need-direct-delays-requires
 direct-delays-requires c κs = search needs
 
--- src/lib.rt:427:5
 minimum-delays-requires : tie.Need-minimum-delays-requires
 minimum-delays-requires c κs = search needs
 
--- src/lib.rt:429:26
 slice-aggregate-judge : tie.Need-slice-aggregate-judge
 slice-aggregate-judge c = search needs
 
--- src/lib.rt:429:5
 judge-requires : tie.Need-judge-requires
 judge-requires c κs = search needs
 
--- src/lib.rt:416:1
 same-length : tie.Need-same-length
 same-length c = search needs
 
--- src/lib.rt:416:1
 same-length-2 : tie.Need-same-length-2
 same-length-2 c = search needs
 
--- src/lib.rt:416:1
 same-length-3 : tie.Need-same-length-3
 same-length-3 c = search needs
 
--- src/lib.rt:416:1
 same-length-4 : tie.Need-same-length-4
 same-length-4 c = search needs
 
--- src/lib.rt:416:1
 returns : tie.Need-returns
 returns c =
     let s = c .before .before .before .before .before .before .before .before .before .before .before .before .before .before .before .before .before .before .before .before .before .before .before in

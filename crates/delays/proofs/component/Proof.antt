@@ -8,10 +8,6 @@ use Rattle.delays.specs.Refusals.{linkedBy, componentOf}
 use Rattle.delays.proofs.Search.{mask-more, bit-more, bit-small, bit-set}
 use Rattle.delays.proofs.component.Statement.{statement}
 use Rattle.delays.proofs.component.Tie as tie
-use Rattle.delays.proofs.component.Reads as reads
-use Rattle.delays.proofs.component.Lts as lts
-use Rattle.delays.proofs.linked.Reads as linked-reads
-use Rattle.delays.proofs.set_if.Reads as set-if-reads
 
 abbrev Inv-loop : tie.InvT-loop
 Inv-loop kind value n i mask₀ bit₀ j₀ mask bit j =
@@ -20,38 +16,30 @@ Inv-loop kind value n i mask₀ bit₀ j₀ mask bit j =
 abbrev μ-loop : tie.MeasureT-loop
 μ-loop kind value n i mask₀ bit₀ j₀ mask bit j = n - j
 
--- src/lib.rt:313:5
 loop-holds : tie.Need-loop-holds Inv-loop μ-loop
 unfolding maskOf
 loop-holds c = (omega arith, refl, omega arith, refl)
 
--- src/lib.rt:314:24
 linked-requires : tie.Need-linked-requires Inv-loop μ-loop
 linked-requires c κs = omega arith
 
--- src/lib.rt:314:17
 set-if-requires : tie.Need-set-if-requires Inv-loop μ-loop
 set-if-requires c κs = search needs
 
--- src/lib.rt:314:9
 add-mask : tie.Need-add-mask Inv-loop μ-loop
 add-mask c =
     let l = c .before .before .before .loop in
     omega (arith, bit-small (l .j) (l .bit) (l .inv .1) (omega arith), bit-set (c .before .linked .result) (l .bit), c .set-if .ensures)
 
--- src/lib.rt:315:9
 mul-bit : tie.Need-mul-bit Inv-loop μ-loop
 mul-bit c = let l = c .before .before .before .loop in omega (arith, bit-small (l .j) (l .bit) (l .inv .1) (omega arith))
 
--- src/lib.rt:316:9
 add-j : tie.Need-add-j Inv-loop μ-loop
 add-j c = omega arith
 
--- src/lib.rt:313:5
 loop-less : tie.Need-loop-less Inv-loop μ-loop
 loop-less c = omega arith
 
--- src/lib.rt:313:5
 loop-again : tie.Need-loop-again Inv-loop μ-loop
 loop-again c =
     let l = c .before .before .before .loop in
@@ -62,7 +50,6 @@ loop-again c =
       rw (c .set-if .ensures, c .before .linked .ensures) (mask-more _ (l .j) (l .mask) (l .bit) (l .inv .3) (l .inv .1)),
     )
 
--- src/lib.rt:306:1
 returns : tie.Need-returns Inv-loop μ-loop
 unfolding componentOf
 returns c =

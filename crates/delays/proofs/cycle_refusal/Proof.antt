@@ -5,30 +5,20 @@ use Rattle.basis.specs.Choice.{chosen, passed}
 use Rattle.delays.specs.Refusals.{cycleOf}
 use Rattle.delays.proofs.cycle_refusal.Statement.{statement}
 use Rattle.delays.proofs.cycle_refusal.Tie as tie
-use Rattle.delays.proofs.cycle_refusal.Reads as reads
-use Rattle.delays.proofs.cycle_refusal.Lts as lts
-use Rattle.delays.proofs.accept.Reads as accept-reads
-use Rattle.delays.proofs.component.Reads as component-reads
-use Rattle.delays.proofs.first_loop.Reads as first-loop-reads
 
--- src/lib.rt:372:9
 first-loop-requires : tie.Need-first-loop-requires
 first-loop-requires c κs = search needs
 
--- src/lib.rt:376:19
 component-requires : tie.Need-component-requires
 component-requires c κs = search needs
 
--- src/lib.rt:374:9
 returns : tie.Need-returns
 unfolding cycleOf
 returns c = rw (c .component .ensures, ← c .before .before .first-loop .ensures) (chosen _ _ _ _ (lt-ltb _ _ (c .before .if1 .taken)) refl)
 
--- src/lib.rt:381:5
 accept-requires : tie.Need-accept-requires
 accept-requires c κs = search needs
 
--- src/lib.rt:368:1
 returns-2 : tie.Need-returns-2
 unfolding cycleOf
 returns-2 c = rw (← c .before .before .first-loop .ensures) (passed _ _ _ _ (le-ltb _ _ (c .before .if1 .left)) (c .accept .ensures))

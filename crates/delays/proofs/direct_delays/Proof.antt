@@ -2,42 +2,30 @@ use Rattle.delays.proofs.Plans.{inside-of, direct-held}
 use borrow.Author.Needs.{needs}
 use Rattle.delays.proofs.direct_delays.Statement.{statement}
 use Rattle.delays.proofs.direct_delays.Tie as tie
-use Rattle.delays.proofs.direct_delays.Reads as reads
-use Rattle.delays.proofs.direct_delays.Lts as lts
-use Rattle.delays.proofs.clear.Reads as clear-reads
-use Rattle.delays.proofs.edges.Reads as edges-reads
 
--- src/lib.rt:218:5
 clear-requires : tie.Need-clear-requires
 clear-requires c κs = search needs
 
--- src/lib.rt:219:11
 slice-aggregate-edges : tie.Need-slice-aggregate-edges
 slice-aggregate-edges c = search needs
 
--- src/lib.rt:219:21
 slice-aggregate-edges-2 : tie.Need-slice-aggregate-edges-2
 slice-aggregate-edges-2 c = search needs
 
--- src/lib.rt:219:31
 slice-aggregate-edges-3 : tie.Need-slice-aggregate-edges-3
 slice-aggregate-edges-3 c = search needs
 
--- src/lib.rt:219:5
 edges-requires : tie.Need-edges-requires
 edges-requires c κs =
     let s = c .before .before .before .before .before .before .before .before .before .before .before .before .before .before .before .before .before in
     (search needs, search needs, inside-of (s .args .p) (s .pre .2), c .before .before .before .before .before .before .before .before .before .clear .ensures)
 
--- src/lib.rt:211:1
 same-length : tie.Need-same-length
 same-length c = search needs
 
--- src/lib.rt:211:1
 same-length-2 : tie.Need-same-length-2
 same-length-2 c = search needs
 
--- src/lib.rt:211:1
 returns : tie.Need-returns
 returns c = direct-held (c .before .before .before .before .before .before .before .before .before .before .before .before .before .before .before .before .before .before .before .before .before .before .args .p) _ _ (λ q. c .slice-known6 .given q .fits) (c .before .before .before .before .edges .ensures)
 

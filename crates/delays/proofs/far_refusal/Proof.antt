@@ -7,49 +7,35 @@ use Rattle.delays.specs.Refusals.{farOf}
 use Rattle.delays.proofs.Refusals.{target-in}
 use Rattle.delays.proofs.far_refusal.Statement.{statement}
 use Rattle.delays.proofs.far_refusal.Tie as tie
-use Rattle.delays.proofs.far_refusal.Reads as reads
-use Rattle.delays.proofs.far_refusal.Lts as lts
-use Rattle.delays.proofs.accept.Reads as accept-reads
-use Rattle.delays.proofs.far_source.Reads as far-source-reads
-use Rattle.delays.proofs.far_target.Reads as far-target-reads
 
--- src/lib.rt:390:9
 far-source-requires : tie.Need-far-source-requires
 far-source-requires c κs = search needs
 
--- src/lib.rt:392:13
 far-target-requires : tie.Need-far-target-requires
 far-target-requires c κs = search needs
 
--- src/lib.rt:396:20
 mul-t8 : tie.Need-mul-t8
 mul-t8 c = search needs
 
--- src/lib.rt:396:20
 shared-slice-read-t10 : tie.Need-shared-slice-read-t10
 shared-slice-read-t10 c = search needs
 
--- src/lib.rt:397:21
 mul-t11 : tie.Need-mul-t11
 mul-t11 c =
     omega (arith, target-in _ (c .before .before .before .before .before .before .before .args .n) (c .before .before .before .far-source .result) (c .before .far-target .result) (c .before .before .before .far-source .ensures) (c .before .before .if1 .taken) (c .before .far-target .ensures))
 
--- src/lib.rt:397:21
 shared-slice-read-t13 : tie.Need-shared-slice-read-t13
 shared-slice-read-t13 c =
     omega (arith, target-in _ (c .before .before .before .before .before .before .before .before .args .n) (c .before .before .before .before .far-source .result) (c .before .before .far-target .result) (c .before .before .before .before .far-source .ensures) (c .before .before .before .if1 .taken) (c .before .before .far-target .ensures))
 
--- src/lib.rt:393:9
 returns : tie.Need-returns
 unfolding farOf
 returns c =
     rw (← c .before .before .before .before .far-source .ensures, ← c .before .before .far-target .ensures) (chosen _ _ _ _ (lt-ltb _ _ (c .before .before .before .if1 .taken)) refl)
 
--- src/lib.rt:400:5
 accept-requires : tie.Need-accept-requires
 accept-requires c κs = search needs
 
--- src/lib.rt:386:1
 returns-2 : tie.Need-returns-2
 unfolding farOf
 returns-2 c = rw (← c .before .before .far-source .ensures) (passed _ _ _ _ (le-ltb _ _ (c .before .if1 .left)) (c .accept .ensures))

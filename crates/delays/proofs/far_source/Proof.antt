@@ -9,9 +9,6 @@ use Rattle.delays.specs.Refusals.{farTarget, farSource}
 use Rattle.delays.proofs.Search.{first-start, first-here, first-on, first-end}
 use Rattle.delays.proofs.far_source.Statement.{statement}
 use Rattle.delays.proofs.far_source.Tie as tie
-use Rattle.delays.proofs.far_source.Reads as reads
-use Rattle.delays.proofs.far_source.Lts as lts
-use Rattle.delays.proofs.far_target.Reads as far-target-reads
 
 abbrev Inv-loop : tie.InvT-loop
 Inv-loop kind value n s₀ s =
@@ -20,36 +17,29 @@ Inv-loop kind value n s₀ s =
 abbrev μ-loop : tie.MeasureT-loop
 μ-loop kind value n s₀ s = n - s
 
--- src/lib.rt:346:5
 loop-holds : tie.Need-loop-holds Inv-loop μ-loop
 loop-holds c = (omega arith, first-start _ _)
 
--- src/lib.rt:347:12
 far-target-requires : tie.Need-far-target-requires Inv-loop μ-loop
 far-target-requires c κs = omega arith
 
--- src/lib.rt:348:13
 returns : tie.Need-returns Inv-loop μ-loop
 unfolding farSource
 returns c =
     let l = c .before .before .before .loop in
     sym (first-here _ (l .s) (c .before .before .before .before .before .before .args .n) (omega arith) (rw (← c .before .far-target .ensures) (lt-ltb _ _ (c .if1 .taken)))) ∙ l .inv .1
 
--- src/lib.rt:350:9
 add-s : tie.Need-add-s Inv-loop μ-loop
 add-s c = omega arith
 
--- src/lib.rt:346:5
 loop-less : tie.Need-loop-less Inv-loop μ-loop
 loop-less c = omega arith
 
--- src/lib.rt:346:5
 loop-again : tie.Need-loop-again Inv-loop μ-loop
 loop-again c =
     let l = c .before .before .before .loop in
     (omega arith, sym (first-on _ (l .s) (c .before .before .before .before .before .before .args .n) (omega arith) (rw (← c .before .far-target .ensures) (le-ltb _ _ (c .if1 .left)))) ∙ l .inv .1)
 
--- src/lib.rt:341:1
 returns-2 : tie.Need-returns-2 Inv-loop μ-loop
 unfolding farSource
 returns-2 c =

@@ -7,12 +7,8 @@ use Rattle.delays.specs.Cells.{grid}
 use Rattle.delays.specs.Search.{first}
 use Rattle.delays.specs.Refusals.{farTarget}
 use Rattle.delays.proofs.Search.{first-start, first-here, first-on, first-end}
-use borrow.Author.Needs.{needs}
 use Rattle.delays.proofs.far_target.Statement.{statement}
 use Rattle.delays.proofs.far_target.Tie as tie
-use Rattle.delays.proofs.far_target.Reads as reads
-use Rattle.delays.proofs.far_target.Lts as lts
-use Rattle.delays.proofs.too_far.Reads as too-far-reads
 
 abbrev Inv-loop : tie.InvT-loop
 Inv-loop kind value n s t₀ t = (t ≤ n) × (first (λ (x : ℕ). eqb (grid kind value s x) far) t (n - t) ≡ first (λ (x : ℕ). eqb (grid kind value s x) far) 0 n)
@@ -20,36 +16,29 @@ Inv-loop kind value n s t₀ t = (t ≤ n) × (first (λ (x : ℕ). eqb (grid ki
 abbrev μ-loop : tie.MeasureT-loop
 μ-loop kind value n s t₀ t = n - t
 
--- src/lib.rt:327:5
 loop-holds : tie.Need-loop-holds Inv-loop μ-loop
 loop-holds c = (omega arith, first-start _ _)
 
--- src/lib.rt:328:12
 too-far-requires : tie.Need-too-far-requires Inv-loop μ-loop
 too-far-requires c κs = omega arith
 
--- src/lib.rt:329:13
 returns : tie.Need-returns Inv-loop μ-loop
 unfolding farTarget
 returns c =
     let l = c .before .before .before .loop in
     sym (first-here _ (l .t) (c .before .before .before .before .before .before .args .n) (omega arith) (sym (c .before .too-far .ensures) ∙ c .if1 .taken)) ∙ l .inv .1
 
--- src/lib.rt:331:9
 add-t : tie.Need-add-t Inv-loop μ-loop
 add-t c = omega arith
 
--- src/lib.rt:327:5
 loop-less : tie.Need-loop-less Inv-loop μ-loop
 loop-less c = omega arith
 
--- src/lib.rt:327:5
 loop-again : tie.Need-loop-again Inv-loop μ-loop
 loop-again c =
     let l = c .before .before .before .loop in
     (omega arith, sym (first-on _ (l .t) (c .before .before .before .before .before .before .args .n) (omega arith) (sym (c .before .too-far .ensures) ∙ c .if1 .left)) ∙ l .inv .1)
 
--- src/lib.rt:322:1
 returns-2 : tie.Need-returns-2 Inv-loop μ-loop
 unfolding farTarget
 returns-2 c =

@@ -6,12 +6,8 @@ use Rattle.delays.specs.Cells.{grid}
 use Rattle.delays.specs.Search.{first}
 use Rattle.delays.specs.Refusals.{firstLoop}
 use Rattle.delays.proofs.Search.{first-start, first-here, first-on, first-end}
-use borrow.Author.Needs.{needs}
 use Rattle.delays.proofs.first_loop.Statement.{statement}
 use Rattle.delays.proofs.first_loop.Tie as tie
-use Rattle.delays.proofs.first_loop.Reads as reads
-use Rattle.delays.proofs.first_loop.Lts as lts
-use Rattle.delays.proofs.no_delay.Reads as no-delay-reads
 
 abbrev Inv-loop : tie.InvT-loop
 Inv-loop kind value n i₀ i = (i ≤ n) × (first (λ (x : ℕ). eqb (grid kind value x x) 0) i (n - i) ≡ first (λ (x : ℕ). eqb (grid kind value x x) 0) 0 n)
@@ -19,36 +15,29 @@ Inv-loop kind value n i₀ i = (i ≤ n) × (first (λ (x : ℕ). eqb (grid kind
 abbrev μ-loop : tie.MeasureT-loop
 μ-loop kind value n i₀ i = n - i
 
--- src/lib.rt:278:5
 loop-holds : tie.Need-loop-holds Inv-loop μ-loop
 loop-holds c = (omega arith, first-start _ _)
 
--- src/lib.rt:279:12
 no-delay-requires : tie.Need-no-delay-requires Inv-loop μ-loop
 no-delay-requires c κs = omega arith
 
--- src/lib.rt:280:13
 returns : tie.Need-returns Inv-loop μ-loop
 unfolding firstLoop
 returns c =
     let l = c .before .before .before .loop in
     sym (first-here _ (l .i) (c .before .before .before .before .before .before .args .n) (omega arith) (sym (c .before .no-delay .ensures) ∙ c .if1 .taken)) ∙ l .inv .1
 
--- src/lib.rt:282:9
 add-i : tie.Need-add-i Inv-loop μ-loop
 add-i c = omega arith
 
--- src/lib.rt:278:5
 loop-less : tie.Need-loop-less Inv-loop μ-loop
 loop-less c = omega arith
 
--- src/lib.rt:278:5
 loop-again : tie.Need-loop-again Inv-loop μ-loop
 loop-again c =
     let l = c .before .before .before .loop in
     (omega arith, sym (first-on _ (l .i) (c .before .before .before .before .before .before .args .n) (omega arith) (sym (c .before .no-delay .ensures) ∙ c .if1 .left)) ∙ l .inv .1)
 
--- src/lib.rt:273:1
 returns-2 : tie.Need-returns-2 Inv-loop μ-loop
 unfolding firstLoop
 returns-2 c =

@@ -5,25 +5,17 @@ use Rattle.basis.specs.Choice.{chosen, passed}
 use Rattle.delays.specs.Refusals.{judged, orElse}
 use Rattle.delays.proofs.judge.Statement.{statement}
 use Rattle.delays.proofs.judge.Tie as tie
-use Rattle.delays.proofs.judge.Reads as reads
-use Rattle.delays.proofs.judge.Lts as lts
-use Rattle.delays.proofs.cycle_refusal.Reads as cycle-refusal-reads
-use Rattle.delays.proofs.far_refusal.Reads as far-refusal-reads
 
--- src/lib.rt:408:9
 cycle-refusal-requires : tie.Need-cycle-refusal-requires
 cycle-refusal-requires c κs = search needs
 
--- src/lib.rt:410:9
 far-refusal-requires : tie.Need-far-refusal-requires
 far-refusal-requires c κs = search needs
 
--- src/lib.rt:410:9
 returns : tie.Need-returns
 unfolding judged orElse
 returns c = rw (← c .before .before .before .cycle-refusal .ensures) (chosen _ _ _ _ (eq-eqb _ _ (c .before .if1 .taken)) (c .far-refusal .ensures))
 
--- src/lib.rt:404:1
 returns-2 : tie.Need-returns-2
 unfolding judged orElse
 returns-2 c = rw (← c .before .before .cycle-refusal .ensures) (passed _ _ _ _ (ne-eqb _ _ (c .if1 .left)) refl)

@@ -3,24 +3,17 @@ use mathlib.Core.Path.{_≡_, refl, sym, _∙_}
 use Rattle.delays.specs.Refusals.{linkedBy}
 use Rattle.delays.proofs.linked.Statement.{statement}
 use Rattle.delays.proofs.linked.Tie as tie
-use Rattle.delays.proofs.linked.Reads as reads
-use Rattle.delays.proofs.linked.Lts as lts
-use Rattle.delays.proofs.no_delay.Reads as no-delay-reads
 
--- src/lib.rt:292:8
 no-delay-requires : tie.Need-no-delay-requires
 no-delay-requires c κs = search needs
 
--- src/lib.rt:293:9
 no-delay-requires-2 : tie.Need-no-delay-requires-2
 no-delay-requires-2 c κs = search needs
 
--- src/lib.rt:293:9
 returns : tie.Need-returns
 unfolding linkedBy
 returns c = c .no-delay2 .ensures ∙ rw (sym (c .before .before .no-delay .ensures) ∙ c .before .if1 .taken) refl
 
--- src/lib.rt:288:1
 returns-2 : tie.Need-returns-2
 unfolding linkedBy
 returns-2 c = rw (sym (c .before .no-delay .ensures) ∙ c .if1 .left) refl

@@ -2,28 +2,19 @@ use Rattle.delays.proofs.Plans.{minimum-held}
 use borrow.Author.Needs.{needs}
 use Rattle.delays.proofs.minimum_delays.Statement.{statement}
 use Rattle.delays.proofs.minimum_delays.Tie as tie
-use Rattle.delays.proofs.minimum_delays.Reads as reads
-use Rattle.delays.proofs.minimum_delays.Lts as lts
-use Rattle.delays.proofs.close.Reads as close-reads
-use Rattle.delays.proofs.direct_delays.Reads as direct-delays-reads
 
--- src/lib.rt:227:5
 direct-delays-requires : tie.Need-direct-delays-requires
 direct-delays-requires c κs = search needs
 
--- src/lib.rt:228:5
 close-requires : tie.Need-close-requires
 close-requires c κs = search needs
 
--- src/lib.rt:223:1
 same-length : tie.Need-same-length
 same-length c = search needs
 
--- src/lib.rt:223:1
 same-length-2 : tie.Need-same-length-2
 same-length-2 c = search needs
 
--- src/lib.rt:223:1
 returns : tie.Need-returns
 returns c =
     let s = c .before .before .before .before .before .before .before .before .before .before .before .before .before .before .before .before in

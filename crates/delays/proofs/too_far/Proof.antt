@@ -3,35 +3,25 @@ use mathlib.Core.Path.{_≡_, sym, _∙_}
 use Rattle.delays.proofs.Cells.{far-seen, far-near, far-none}
 use Rattle.delays.proofs.too_far.Statement.{statement}
 use Rattle.delays.proofs.too_far.Tie as tie
-use Rattle.delays.proofs.too_far.Reads as reads
-use Rattle.delays.proofs.too_far.Lts as lts
-use Rattle.delays.proofs.read_reach.Reads as read-reach-reads
 
--- src/lib.rt:269:9
 read-reach-requires : tie.Need-read-reach-requires
 read-reach-requires c κs = search needs
 
--- src/lib.rt:271:25
 enum-told : tie.Need-enum-told
 enum-told c = search needs
 
--- src/lib.rt:272:26
 enum-told-2 : tie.Need-enum-told-2
 enum-told-2 c = search needs
 
--- src/lib.rt:273:24
 enum-told-3 : tie.Need-enum-told-3
 enum-told-3 c = search needs
 
--- src/lib.rt:265:1
 returns : tie.Need-returns
 returns c = far-near _ _ (sym (c .before .before .read-reach .ensures) ∙ c .enum-told .given .1)
 
--- src/lib.rt:265:1
 returns-2 : tie.Need-returns-2
 returns-2 c = far-seen _ (sym (c .before .before .read-reach .ensures) ∙ c .enum-told2 .given .1)
 
--- src/lib.rt:265:1
 returns-3 : tie.Need-returns-3
 returns-3 c = far-none _ (sym (c .before .before .read-reach .ensures) ∙ c .enum-told3 .given .1)
 
