@@ -21,7 +21,7 @@ use Rattle.states.specs.declared.Delivery.{Delivery}
 use Rattle.states.specs.declared.Delivery.the-variants.{Started, Failed}
 use Rattle.states.specs.Sessions.{Member, Session, blank, view, withIdle}
 use Rattle.states.specs.Rules.{isSet, markIs, active, revisionOf}
-use Rattle.states.specs.Steps.{Out, Pass, tell, each, toAll, every, refusalOf, effect, visit, granting, grantBelow, grants, atRest, idling, idles, bounding, bounds, follow, welcome, accepted, answered, step, codeOf, ended, abandon}
+use Rattle.states.specs.Steps.{Out, Pass, tell, each, toAll, every, refusalOf, effect, visit, granting, grantBelow, grants, atRest, idling, idles, bounding, bounds, follow, welcome, accepted, answered, step, codeOf, codeGiven, ended, abandon}
 use Rattle.states.proofs.Laws.{picked, eq-or-less}
 use Rattle.states.proofs.Passes.{put-all, each-keeps, Long, visit-long, grants-long, effect-long}
 use Rattle.states.proofs.Memberwise.{passed}
@@ -181,7 +181,7 @@ module _ (p : Net) (s : Session) (h : length (s .members) ≡ p .count) (k : ℕ
 -- so does the owner's abort
 pub abandon-count : (p : Net) (s : Session) (code : ℕ) → length (abandon p s code .sent) ≤ 1 + (p .count + p .count)
 unfolding abandon
-abandon-count p s code = omega (arith, all-count (λ k. Failed k (ended s code .cause) (ended s code .code)) (p .count))
+abandon-count p s code = omega (arith, all-count (λ k. Failed k (ended s code .cause) (codeGiven (ended s code))) (p .count))
 
 -- ---- what is sent stays: a pass never sends less than its turns so far
 pub visit-more : (a : Pass) (o : Out) (k : ℕ) → count o ≤ count (visit a o k)

@@ -2,19 +2,20 @@
 -- Assumes nothing.
 use Prim.Native.Nat.{ℕ, zero, suc, _≤_}
 use native.Mathlib.Omega.{arith}
-use mathlib.Core.Path.{_≡_, refl, sym, ap, subst, _∙_}
+use mathlib.Core.Path.{_≡_, refl}
 use mathlib.Core.Bool.{Bool, true, false}
 use mathlib.Core.List.{List, [], _∷_}
-use lib.Dec.{ltb, leb}
+use lib.Dec.{ltb}
 use lib.ListN.{length, getD}
-use borrow.Author.Tests.{ltb-true, ltb-false, leb-false}
+use borrow.Author.Tests.{ltb-true, ltb-false}
 use Rattle.basis.specs.Choice.{pick, not}
 use Rattle.tags.specs.declared.Tag.{Tag}
 use Rattle.tags.specs.declared.Tag.the-variants.{Never, Finite, Forever}
 use Rattle.tags.specs.Tags.{tagLe, tagBefore}
-use Rattle.tags.proofs.Order.{clash, trans, total}
+use Rattle.tags.proofs.Order.{clash, trans}
 use Rattle.plans.specs.Nets.{Net}
-use Rattle.transit.specs.Tags.{insert, after, holds, full, Rising}
+use Rattle.transit.specs.Tags.{insert, after}
+use Rattle.transit.proofs.Lists.{after-length, after-rising, insert-rising, insert-room}
 use Rattle.states.specs.declared.Next.{Next}
 use Rattle.states.specs.declared.Next.the-variants.{Quiet, Event}
 use Rattle.states.specs.declared.Publication.the-variants.{Published}
@@ -38,33 +39,6 @@ unfolding after
 after-words t [] h = tt
 after-words t (x ∷ xs) h = picked Words (tagLe x t) (after t xs) (x ∷ after t xs) (after-words t xs (h .1)) (h .0, after-words t xs (h .1))
 
-pub after-length : (t : Tag) (ts : List Tag) → length (after t ts) ≤ length ts
-unfolding after
-after-length t [] = omega arith
-after-length t (x ∷ xs) = picked (λ (l : List Tag). length l ≤ length (x ∷ xs)) (tagLe x t) (after t xs) (x ∷ after t xs) (omega (arith, after-length t xs)) (omega (arith, after-length t xs))
-
-pub later : (t c x : Tag) → Le t c → Lt c x → Lt t x
-later t c x l h = go (tagLe x t) refl
-  where
-    go : (b : Bool) → tagLe x t ≡ b → Lt t x
-    go true e = clash (sym h ∙ trans x t c e l)
-    go false e = e
-
--- nothing to remove from tags that all lie above
-pub after-same : (t c : Tag) (ts : List Tag) → Le t c → Rising c ts → after t ts ≡ ts
-unfolding after
-after-same t c [] l h = refl
-after-same t c (x ∷ xs) l h = rw (later t c x l (h .0)) (ap (λ (y : List Tag). x ∷ y) (after-same t x xs (total x t (later t c x l (h .0))) (h .1)))
-
-pub after-rising : (t c : Tag) (ts : List Tag) → Rising c ts → Rising t (after t ts)
-unfolding after
-after-rising t c [] h = tt
-after-rising t c (x ∷ xs) h = go (tagLe x t) refl (after-rising t x xs (h .1))
-  where
-    go : (b : Bool) → tagLe x t ≡ b → Rising t (after t xs) → Rising t (pick b (after t xs) (x ∷ after t xs))
-    go true e ih = ih
-    go false e ih = (e, subst (Rising x) (sym (after-same t x xs (total x t e) (h .1))) (h .1))
-
 -- ---- a tag inserted
 pub insert-words : (t : Tag) (ts : List Tag) → Word t → Words ts → Words (insert t ts)
 unfolding insert
@@ -73,48 +47,6 @@ insert-words t (x ∷ xs) h hs =
     picked Words (tagLe t x) (pick (tagLe x t) (x ∷ xs) (t ∷ (x ∷ xs))) (x ∷ insert t xs)
     (picked Words (tagLe x t) (x ∷ xs) (t ∷ (x ∷ xs)) hs (h, hs))
     (hs .0, insert-words t xs h (hs .1))
-
-pub insert-rising : (t c : Tag) (ts : List Tag) → Lt c t → Rising c ts → Rising c (insert t ts)
-unfolding insert
-insert-rising t c [] l h = (l, tt)
-insert-rising t c (x ∷ xs) l h = go (tagLe t x) (tagLe x t) refl refl (λ m. insert-rising t x xs m (h .1))
-  where
-    go : (a b : Bool) → tagLe t x ≡ a → tagLe x t ≡ b → (Lt x t → Rising x (insert t xs)) → Rising c (pick a (pick b (x ∷ xs) (t ∷ (x ∷ xs))) (x ∷ insert t xs))
-    go true true e f ih = h
-    go true false e f ih = (l, (f, h .1))
-    go false b e f ih = (h .0, ih e)
-
--- a tag at or before the start is not held
-pub not-held : (t c : Tag) (ts : List Tag) → Le t c → Rising c ts → holds t ts ≡ false
-unfolding holds
-not-held t c [] l h = refl
-not-held t c (x ∷ xs) l h = rw (later t c x l (h .0), total x t (later t c x l (h .0))) (not-held t x xs (total x t (later t c x l (h .0))) (h .1))
-
-pub insert-held : (t c : Tag) (ts : List Tag) → Rising c ts → holds t ts ≡ true → insert t ts ≡ ts
-unfolding holds insert
-insert-held t c [] h e = clash e
-insert-held t c (x ∷ xs) h e = go (tagLe t x) (tagLe x t) refl refl (insert-held t x xs (h .1))
-  where
-    go : (a b : Bool) → tagLe t x ≡ a → tagLe x t ≡ b → (holds t xs ≡ true → insert t xs ≡ xs) → pick (tagLe t x) (pick (tagLe x t) (x ∷ xs) (t ∷ (x ∷ xs))) (x ∷ insert t xs) ≡ x ∷ xs
-    go true true p q ih = rw (p, q)
-    go true false p q ih = clash (sym (not-held t x xs p (h .1)) ∙ (rw (p, q) at e))
-    go false b p q ih = rw p (ap (λ (y : List Tag). x ∷ y) (ih (rw p at e)))
-
-pub insert-length : (t : Tag) (ts : List Tag) → length (insert t ts) ≤ suc (length ts)
-unfolding insert
-insert-length t [] = omega arith
-insert-length t (x ∷ xs) =
-    picked (λ (l : List Tag). length l ≤ suc (length (x ∷ xs))) (tagLe t x) (pick (tagLe x t) (x ∷ xs) (t ∷ (x ∷ xs))) (x ∷ insert t xs)
-    (picked (λ (l : List Tag). length l ≤ suc (length (x ∷ xs))) (tagLe x t) (x ∷ xs) (t ∷ (x ∷ xs)) (omega arith) (omega arith))
-    (omega (arith, insert-length t xs))
-
-pub insert-room : (n : ℕ) (t c : Tag) (ts : List Tag) → Rising c ts → full n t ts ≡ false → length ts ≤ n → length (insert t ts) ≤ n
-insert-room n t c ts h e l = go (holds t ts) (leb n (length ts)) refl refl
-  where
-    go : (a b : Bool) → holds t ts ≡ a → leb n (length ts) ≡ b → length (insert t ts) ≤ n
-    go true b p q = rw (insert-held t c ts h p) l
-    go false true p q = clash (sym (rw (p, q) at e))
-    go false false p q = omega (arith, leb-false n (length ts) q, insert-length t ts)
 
 -- ---- what the refusals leave
 pub good-event : (m : Member) (r : ℕ) (e : Next) → FitsNext e → badPublication m r e ≡ false → WordNext (Published r e)

@@ -336,16 +336,20 @@ unfoldable pub answered : Net → Session → ℕ → Request → ℕ → Out
 answered p s i q zero = accepted p s i q
 answered p s i q (suc r) = record { session = withCause s (suc r) (codeOf q); sent = toAll (λ k. Failed k (suc r) (codeOf q)) (p .count) }
 
+-- what Failed says of an ended session's code: it is given only with cause 20
+abbrev pub codeGiven : Session → ℕ
+codeGiven s = pick (eqb (s .cause) 20) (s .code) 0
+
 -- An ended one answers any request with one Failed to the member word given.
 unfoldable pub step : Net → Session → ℕ → Request → Out
-step p s i q = pick (ltb 0 (s .cause)) (record { session = s; sent = Failed i (s .cause) (s .code) ∷ [] }) (answered p s i q (refusalOf p s i q))
+step p s i q = pick (ltb 0 (s .cause)) (record { session = s; sent = Failed i (s .cause) (codeGiven s) ∷ [] }) (answered p s i q (refusalOf p s i q))
 
 -- the owner's abort: cause 20 and its code unless a cause stands, Failed to all
 unfoldable pub ended : Session → ℕ → Session
 ended s code = pick (ltb 0 (s .cause)) s (withCause s 20 code)
 
 unfoldable pub abandon : Net → Session → ℕ → Out
-abandon p s code = record { session = ended s code; sent = toAll (λ k. Failed k (ended s code .cause) (ended s code .code)) (p .count) }
+abandon p s code = record { session = ended s code; sent = toAll (λ k. Failed k (ended s code .cause) (codeGiven (ended s code))) (p .count) }
 
 -- Finished: ended, or every member stopped
 unfoldable pub finished : Net → Session → Bool

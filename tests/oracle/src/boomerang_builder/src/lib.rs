@@ -1,0 +1,3 @@
+//! The federation graph's analysis.
+
+pub mod compiler;

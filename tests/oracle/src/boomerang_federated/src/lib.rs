@@ -1,0 +1,5 @@
+//! Wire tags and delays.
+
+pub mod protocol;
+
+pub use protocol::{WireDelay, WireTag};

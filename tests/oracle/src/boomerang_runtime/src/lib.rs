@@ -1,0 +1,3 @@
+//! The compiled image's tables.
+
+pub mod image;
