@@ -60,7 +60,7 @@ edgeFault n at b k =
     (pick (not (among (memberId b) n (edgeFrom at b k .target))) (giving 7 (edgeId at b k) (edgeFrom at b k .target))
     none))
 
--- 1 and 4 over all member rows, then 5, then 6 and 7: n members and e edges
+-- 1 and 4 over all member rows; then 5 over all member rows; then 6 and 7, edge by edge
 unfoldable pub rowsRefused : ℕ → ℕ → List ℕ → Refusal
 rowsRefused n e b =
     orElse (firstOf (memberFault b) n)

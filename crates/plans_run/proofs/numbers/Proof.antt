@@ -1,13 +1,9 @@
 use borrow.Author.Needs.{needs}
 use Prim.Native.Nat.{_≤_, _-_}
-use borrow.Author.Needs.{needs}
 use lib.ListN.{length}
 use native.Mathlib.Omega.{arith}
 use Rattle.plans_run.proofs.numbers.Statement.{statement}
 use Rattle.plans_run.proofs.numbers.Tie as tie
-use Rattle.plans_run.proofs.numbers.Reads as reads
-use Rattle.plans_run.proofs.numbers.Lts as lts
-use Rattle.plans_run.proofs.item.Reads as item-reads
 
 abbrev Inv-loop : tie.InvT-loop
 Inv-loop xs n i₀ i = i ≤ length xs
@@ -15,35 +11,27 @@ Inv-loop xs n i₀ i = i ≤ length xs
 abbrev μ-loop : tie.MeasureT-loop
 μ-loop xs n i₀ i = length xs - i
 
--- src/main.rt:86:5
 loop-holds : tie.Need-loop-holds Inv-loop μ-loop
 loop-holds c = search needs
 
--- src/main.rt:88:18
 mul-item : tie.Need-mul-item Inv-loop μ-loop
 mul-item c = search needs
 
--- src/main.rt:88:18
 shared-slice-read-item : tie.Need-shared-slice-read-item Inv-loop μ-loop
 shared-slice-read-item c = search needs
 
--- src/main.rt:88:13
 item-requires : tie.Need-item-requires Inv-loop μ-loop
 item-requires c κs = search needs
 
--- src/main.rt:90:9
 add-i : tie.Need-add-i Inv-loop μ-loop
 add-i c = search needs
 
--- src/main.rt:86:5
 loop-less : tie.Need-loop-less Inv-loop μ-loop
 loop-less c = search needs
 
--- src/main.rt:86:5
 loop-again : tie.Need-loop-again Inv-loop μ-loop
 loop-again c = search needs
 
--- src/main.rt:84:1
 returns : tie.Need-returns Inv-loop μ-loop
 returns c = search needs
 

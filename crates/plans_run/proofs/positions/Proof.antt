@@ -1,14 +1,9 @@
 use borrow.Author.Needs.{needs}
 use Prim.Native.Nat.{_≤_, _-_}
-use borrow.Author.Needs.{needs}
 use lib.ListN.{length}
 use native.Mathlib.Omega.{arith}
 use Rattle.plans_run.proofs.positions.Statement.{statement}
 use Rattle.plans_run.proofs.positions.Tie as tie
-use Rattle.plans_run.proofs.positions.Reads as reads
-use Rattle.plans_run.proofs.positions.Lts as lts
-use Rattle.plans_run.proofs.item.Reads as item-reads
-use Rattle.plans_run.proofs.wide.Reads as wide-reads
 
 abbrev Inv-loop : tie.InvT-loop
 Inv-loop xs n i₀ i = i ≤ length xs
@@ -16,35 +11,27 @@ Inv-loop xs n i₀ i = i ≤ length xs
 abbrev μ-loop : tie.MeasureT-loop
 μ-loop xs n i₀ i = length xs - i
 
--- src/main.rt:97:5
 loop-holds : tie.Need-loop-holds Inv-loop μ-loop
 loop-holds c = search needs
 
--- src/main.rt:99:23
 shared-slice-read-wide : tie.Need-shared-slice-read-wide Inv-loop μ-loop
 shared-slice-read-wide c = search needs
 
--- src/main.rt:99:18
 wide-requires : tie.Need-wide-requires Inv-loop μ-loop
 wide-requires c κs = search needs
 
--- src/main.rt:99:13
 item-requires : tie.Need-item-requires Inv-loop μ-loop
 item-requires c κs = search needs
 
--- src/main.rt:101:9
 add-i : tie.Need-add-i Inv-loop μ-loop
 add-i c = search needs
 
--- src/main.rt:97:5
 loop-less : tie.Need-loop-less Inv-loop μ-loop
 loop-less c = search needs
 
--- src/main.rt:97:5
 loop-again : tie.Need-loop-again Inv-loop μ-loop
 loop-again c = search needs
 
--- src/main.rt:95:1
 returns : tie.Need-returns Inv-loop μ-loop
 returns c = search needs
 

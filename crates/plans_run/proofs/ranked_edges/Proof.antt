@@ -1,14 +1,9 @@
 use borrow.Author.Needs.{needs}
 use Prim.Native.Nat.{_≤_, _-_}
-use borrow.Author.Needs.{needs}
 use lib.ListN.{length}
 use native.Mathlib.Omega.{arith}
 use Rattle.plans_run.proofs.ranked_edges.Statement.{statement}
 use Rattle.plans_run.proofs.ranked_edges.Tie as tie
-use Rattle.plans_run.proofs.ranked_edges.Reads as reads
-use Rattle.plans_run.proofs.ranked_edges.Lts as lts
-use Rattle.plans_run.proofs.left.Reads as left-reads
-use Rattle.plans_run.proofs.ranked_edge.Reads as ranked-edge-reads
 
 abbrev Inv-loop : tie.InvT-loop
 Inv-loop n e first step c₀ rank₀ k₀ c rank k = k ≤ 256
@@ -16,35 +11,27 @@ Inv-loop n e first step c₀ rank₀ k₀ c rank k = k ≤ 256
 abbrev μ-loop : tie.MeasureT-loop
 μ-loop n e first step c₀ rank₀ k₀ c rank k = 256 - k
 
--- src/main.rt:207:5
 loop-holds : tie.Need-loop-holds Inv-loop μ-loop
 loop-holds c = search needs
 
--- src/main.rt:209:17
 ranked-edge-requires : tie.Need-ranked-edge-requires Inv-loop μ-loop
 ranked-edge-requires c κs = search needs
 
--- src/main.rt:211:25
 add-left : tie.Need-add-left Inv-loop μ-loop
 add-left c = search needs
 
--- src/main.rt:211:13
 left-requires : tie.Need-left-requires Inv-loop μ-loop
 left-requires c κs = search needs
 
--- src/main.rt:213:9
 add-k : tie.Need-add-k Inv-loop μ-loop
 add-k c = search needs
 
--- src/main.rt:207:5
 loop-less : tie.Need-loop-less Inv-loop μ-loop
 loop-less c = search needs
 
--- src/main.rt:207:5
 loop-again : tie.Need-loop-again Inv-loop μ-loop
 loop-again c = search needs
 
--- src/main.rt:201:1
 returns : tie.Need-returns Inv-loop μ-loop
 returns c = search needs
 

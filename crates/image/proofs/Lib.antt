@@ -1,0 +1,11 @@
+pub mod Counts
+pub mod Tables
+pub mod Puts
+pub mod Rows
+pub mod Sizes
+pub mod Plans
+pub mod Outcomes
+pub mod Cases
+pub mod Most
+pub mod Back
+pub mod Injective

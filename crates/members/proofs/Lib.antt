@@ -1,0 +1,10 @@
+pub mod Nets
+pub mod Delays
+pub mod Steps
+pub mod Typed
+pub mod Records
+pub mod Codes
+pub mod Formed
+pub mod Rules
+pub mod Bounds
+pub mod Sessions
