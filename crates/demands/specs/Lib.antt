@@ -1,0 +1,12 @@
+pub mod Histories
+pub mod Refusals
+pub mod Rules
+pub mod Determined
+pub mod Answers
+pub mod Nets
+pub mod Analysis
+pub mod Samples
+pub mod Shams
+pub mod Marked
+pub mod Words
+pub mod Demands

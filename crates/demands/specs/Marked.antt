@@ -1,0 +1,63 @@
+-- The marked cases, one joint statement.
+-- Assumes nothing.
+use Prim.Native.Nat.{ℕ}
+use mathlib.Core.Path.{_≡_}
+use mathlib.Core.Bool.{true}
+use mathlib.Core.List.{List, [], _∷_}
+use Rattle.tags.specs.declared.Tag.the-variants.{Never, Finite}
+use Rattle.tags.specs.Tags.{top, lessOf}
+use Rattle.plans.specs.declared.Plan.{Plan}
+use Rattle.delays.specs.Graph.{directOf, minimumOf}
+use Rattle.delays.specs.Refusals.{accepted, zeroCycle, tooFar, refusalOf}
+use Rattle.states.specs.Sessions.{fresh}
+use Rattle.states.specs.Steps.{finished}
+use Rattle.demands.specs.Samples.{places, P, case, answers, after-all, deliveries}
+
+-- n members with ids 10, 20, 30, and m edges
+unfoldable pub plan : ℕ → ℕ → List ℕ → List ℕ → List ℕ → Plan
+plan n m source target delay =
+    record {
+      members = n;
+      edges = m;
+      ids = places 32 (10 ∷ 20 ∷ 30 ∷ []);
+      capacities = places 32 [];
+      routes = places 256 (1 ∷ 2 ∷ 3 ∷ []);
+      sources = places 256 source;
+      targets = places 256 target;
+      delays = places 256 delay;
+    }
+
+-- two edges of 2^63 in a row
+unfoldable pub inARow : Plan
+inARow = plan 3 2 (0 ∷ 1 ∷ []) (1 ∷ 2 ∷ []) (9223372036854775808 ∷ 9223372036854775808 ∷ [])
+
+-- a direct edge of 2^64-1 beside them
+unfoldable pub beside : Plan
+beside = plan 3 3 (0 ∷ 1 ∷ 0 ∷ []) (1 ∷ 2 ∷ 2 ∷ []) (9223372036854775808 ∷ 9223372036854775808 ∷ 18446744073709551615 ∷ [])
+
+-- a direct 9, and a path 2+3
+unfoldable pub lowered : Plan
+lowered = plan 3 3 (0 ∷ 0 ∷ 1 ∷ []) (2 ∷ 1 ∷ 2 ∷ []) (9 ∷ 2 ∷ 3 ∷ [])
+
+-- a zero self-loop
+unfoldable pub selfLoop : Plan
+selfLoop = plan 1 1 (0 ∷ []) (0 ∷ []) (0 ∷ [])
+
+pub record Marked : Type 0 where
+  -- (10,3) less 0, 10, 11: (10,3), (0,M), NEVER.
+  pub less-0 : lessOf (Finite 10 3) 0 ≡ Finite 10 3
+  pub less-10 : lessOf (Finite 10 3) 10 ≡ Finite 0 top
+  pub less-11 : lessOf (Finite 10 3) 11 ≡ Never
+  -- two edges of 2^63 in a row refuse with 9
+  pub too-far : refusalOf inARow ≡ tooFar 10 30
+  -- with a direct edge of 2^64-1 beside them, compiling accepts, with a minimum delay above L
+  pub taken : refusalOf beside ≡ accepted
+  pub above : minimumOf beside 0 2 ≡ 18446744073709551615
+  -- Lowering a direct 9 for a path 2+3: direct stays 9, transitive is 5.
+  pub direct : directOf lowered 0 2 ≡ 9
+  pub transitive : minimumOf lowered 0 2 ≡ 5
+  -- a zero self-loop is refused with 8, its component the one member
+  pub self-loop : refusalOf selfLoop ≡ zeroCycle 1
+  -- P's session by steps, every delivery; then finished
+  pub session : answers P (fresh 2 5) case ≡ deliveries
+  pub ended : finished P (after-all P (fresh 2 5) case) ≡ true
