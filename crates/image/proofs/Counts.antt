@@ -63,3 +63,10 @@ sources-few ks n h = summed-small (sourceCount ks n) n n (λ i. sources-most ks 
 
 pub targets-few : (ks : List ℕ) (n : ℕ) → n ≤ 32 → summed (targetCount ks n) n ≤ 1024
 targets-few ks n h = summed-small (targetCount ks n) n n (λ i. targets-most ks n i) h h
+
+-- a member's first row and its rows
+pub sources-sum : (ks : List ℕ) (n i : ℕ) → n ≤ 32 → i < n → summed (sourceCount ks n) i + sourceCount ks n i ≤ 1024
+sources-sum ks n i h l = omega (arith, sources-most ks n i, summed-most (sourceCount ks n) 32 i (λ j m. omega (arith, sources-most ks n j)))
+
+pub targets-sum : (ks : List ℕ) (n i : ℕ) → n ≤ 32 → i < n → summed (targetCount ks n) i + targetCount ks n i ≤ 1024
+targets-sum ks n i h l = omega (arith, targets-most ks n i, summed-most (targetCount ks n) 32 i (λ j m. omega (arith, targets-most ks n j)))

@@ -112,7 +112,7 @@ module _ (src dst delay : List ℕ) where
       let new : ℕ → ℕ = λ (s : ℕ). near (cost src dst delay m s t) in
       let own : ℕ → ℕ = λ (s : ℕ). pick (eqb (getD dst m 0) t) (hit (getD src m 0) s) 0 in
       let a : summed (λ (s : ℕ). near (min (direct src dst delay m s t) (cost src dst delay m s t))) n ≤ summed (λ (s : ℕ). old s + new s) n =
-        summed-le _ _ n (λ s l. near-min (direct src dst delay m s t) (cost src dst delay m s t)) in
+      summed-le _ _ n (λ s l. near-min (direct src dst delay m s t) (cost src dst delay m s t)) in
       let b : summed new n ≤ summed own n = summed-le new own n (λ s l. near-cost m s t) in
       let c : summed own n ≤ pick (eqb (getD dst m 0) t) 1 0 = rw (pick-sum (eqb (getD dst m 0) t) (hit (getD src m 0)) n) (pick-least (eqb (getD dst m 0) t) (summed (hit (getD src m 0)) n) (hit-most (getD src m 0) n)) in
       omega (arith, summed-add old new n)
@@ -142,7 +142,7 @@ pub direct-most : (p : Plan) → directCount p ≤ p .edges
 unfolding directCount directSources found counted near
 direct-most p =
     let e : summed (found (p .sources) (p .targets) (p .delays) (p .members) (p .edges)) (p .members) ≡ firstOf (directSources p) (p .members) =
-      first-is (found (p .sources) (p .targets) (p .delays) (p .members) (p .edges)) (directSources p) (p .members) (λ t l. sourced-count (λ (s : ℕ). directOf p s t) (p .members)) in
+    first-is (found (p .sources) (p .targets) (p .delays) (p .members) (p .edges)) (directSources p) (p .members) (λ t l. sourced-count (λ (s : ℕ). directOf p s t) (p .members)) in
     omega (arith, edges-most (p .sources) (p .targets) (p .delays) (p .members) (p .edges))
 
 -- places that each have few, over any list

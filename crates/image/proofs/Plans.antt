@@ -15,6 +15,7 @@ use Rattle.delays.specs.Cells.{Held, kindOf, wordOf}
 use Rattle.delays.specs.Lists.{Source, sourced, passing, reached, directSources, transitiveSources, downstream}
 use Rattle.image.specs.Image.{laid, gathered, firstOf, sourceRow, targetRow, memberRow, edgeRow, memberTable, edgeTable, directTable, transitiveTable, downstreamTable, directCount, transitiveCount, downstreamCount, headerOf, endAt, totalOf, imageOf}
 use Rattle.image.specs.Writing.{Room, held, onward, summed, counted, sourceCount, targetCount, sourceBytes, sourcesBytes, sourceTable, targetBytes, targetsBytes, targetTable, memberBytes, memberIn, membersBytes, edgeIn, edgeBytes, edgesBytes, frontBytes, backBytes}
+use Rattle.image.proofs.Counts.{sources-few, targets-few}
 use Rattle.image.proofs.Sizes.{length-image}
 use Rattle.image.proofs.Tables.{laid-one, gathered-same, length-gathered, laid-gathered, laid-upTo}
 
@@ -161,22 +162,46 @@ module _ (p : Plan) (dk dv mk mv : List ℕ) (few : p .members ≤ 32) (direct :
   unfolding targetTable downstreamTable downstream reached
   downstream-is = table-is targetRow (targetsBytes mk (p .members)) (downstream p) (p .members) (λ s l. targets-are mk mv (minimumOf p) minimum (p .members) s few (omega arith))
 
+-- ---- the image of a plan whose delays the matrices hold, with d, t and w rows counted
+pub record Counted (p : Plan) (dk dv mk mv : List ℕ) (d t w : ℕ) : Type 0 where
+  pub few : p .members ≤ 32
+  pub direct : Held dk dv (directOf p)
+  pub minimum : Held mk mv (minimumOf p)
+  pub directs : d ≡ summed (sourceCount dk (p .members)) (p .members)
+  pub transitives : t ≡ summed (sourceCount mk (p .members)) (p .members)
+  pub downstreams : w ≡ summed (targetCount mk (p .members)) (p .members)
+
+module _ {p : Plan} {dk dv mk mv : List ℕ} {d t w : ℕ} (c : Counted p dk dv mk mv d t w) where
+  direct-rows : d ≡ directCount p
+  unfolding directCount
+  direct-rows = c .directs ∙ direct-first p dk dv mk mv (c .few) (c .direct) (c .minimum) (p .members) (omega arith)
+
+  transitive-rows : t ≡ transitiveCount p
+  unfolding transitiveCount
+  transitive-rows = c .transitives ∙ transitive-first p dk dv mk mv (c .few) (c .direct) (c .minimum) (p .members) (omega arith)
+
+  downstream-rows : w ≡ downstreamCount p
+  unfolding downstreamCount
+  downstream-rows = c .downstreams ∙ downstream-first p dk dv mk mv (c .few) (c .direct) (c .minimum) (p .members) (omega arith)
+
+  pub few-rows : (d ≤ 1024) × (t ≤ 1024) × (w ≤ 1024)
+  few-rows =
+      (rw (c .directs) (sources-few dk (p .members) (c .few)), rw (c .transitives) (sources-few mk (p .members) (c .few)), rw (c .downstreams) (targets-few mk (p .members) (c .few)))
+
   -- all of it
-  pub image-is : (d t w : ℕ) → d ≡ summed (sourceCount dk (p .members)) (p .members) → t ≡ summed (sourceCount mk (p .members)) (p .members) → w ≡ summed (targetCount mk (p .members)) (p .members) → frontBytes p dk mk d t w ++ backBytes dk dv mk mv (p .members) ≡ imageOf p
-  unfolding frontBytes backBytes imageOf directCount transitiveCount downstreamCount
-  image-is d t w ed et ew =
-      rw (ed, et, ew, direct-first (p .members) (omega arith), transitive-first (p .members) (omega arith), downstream-first (p .members) (omega arith), members-are, edges-are, direct-is, transitive-is, downstream-is)
+  pub image-is : frontBytes p dk mk d t w ++ backBytes dk dv mk mv (p .members) ≡ imageOf p
+  unfolding frontBytes backBytes imageOf
+  image-is =
+      rw (direct-rows, transitive-rows, downstream-rows, members-are p dk dv mk mv (c .few) (c .direct) (c .minimum), edges-are p dk dv mk mv (c .few) (c .direct) (c .minimum), direct-is p dk dv mk mv (c .few) (c .direct) (c .minimum), transitive-is p dk dv mk mv (c .few) (c .direct) (c .minimum), downstream-is p dk dv mk mv (c .few) (c .direct) (c .minimum))
       (simp append-assoc)
 
-  -- and how long it is
-  pub total-is : (d t w : ℕ) → d ≡ summed (sourceCount dk (p .members)) (p .members) → t ≡ summed (sourceCount mk (p .members)) (p .members) → w ≡ summed (targetCount mk (p .members)) (p .members) → endAt (p .members) (p .edges) d t w ≡ totalOf p
-  unfolding totalOf directCount transitiveCount downstreamCount
-  total-is d t w ed et ew =
-      rw (ed, et, ew, direct-first (p .members) (omega arith), transitive-first (p .members) (omega arith), downstream-first (p .members) (omega arith))
+  -- how long it is
+  pub total-is : endAt (p .members) (p .edges) d t w ≡ totalOf p
+  unfolding totalOf
+  total-is = rw (direct-rows, transitive-rows, downstream-rows)
 
   -- room for the total is room for what is written
-  pub image-room : (d t w : ℕ) (l : List ℕ) → d ≡ summed (sourceCount dk (p .members)) (p .members) → t ≡ summed (sourceCount mk (p .members)) (p .members) → w ≡ summed (targetCount mk (p .members)) (p .members) → endAt (p .members) (p .edges) d t w ≤ length l → Room 0 (frontBytes p dk mk d t w ++ backBytes dk dv mk mv (p .members)) l
-  image-room d t w l ed et ew h =
-      let long : length (frontBytes p dk mk d t w ++ backBytes dk dv mk mv (p .members)) ≡ totalOf p = ap length (image-is d t w ed et ew) ∙ length-image p in
-      let total : endAt (p .members) (p .edges) d t w ≡ totalOf p = total-is d t w ed et ew in
-      omega arith
+  pub image-room : (l : List ℕ) → endAt (p .members) (p .edges) d t w ≤ length l → Room 0 (frontBytes p dk mk d t w ++ backBytes dk dv mk mv (p .members)) l
+  image-room l h =
+      let long : length (frontBytes p dk mk d t w ++ backBytes dk dv mk mv (p .members)) ≡ totalOf p = ap length image-is ∙ length-image p in
+      omega (arith, total-is)

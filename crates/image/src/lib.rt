@@ -21,14 +21,20 @@ use plans::read;
 
 // The version, and the bytes of the header, of a member row, of an edge, of a direct or transitive row, of a downstream row.
 const VERSION: usize = 1;
+
 const HEADER: usize = 48;
+
 const MEMBER: usize = 40;
+
 const EDGE: usize = 24;
+
 const SOURCE: usize = 16;
+
 const TARGET: usize = 4;
 
 // Entries of a row of a matrix of delays, and of a matrix.
 const ROW: usize = 32;
+
 const ENTRIES: usize = 1024;
 
 // The outcome of compiling: why not, or the bytes written.
@@ -198,14 +204,7 @@ fn put_source(out: &mut [u8], at: usize, source: usize, delay: u64) -> usize
 }
 
 // Puts the row of s as a source of t, if it is one.
-fn put_source_of(
-    out: &mut [u8],
-    at: usize,
-    kind: &[u8],
-    value: &[u64],
-    t: usize,
-    s: usize,
-) -> usize
+fn put_source_of(out: &mut [u8], at: usize, kind: &[u8], value: &[u64], t: usize, s: usize) -> usize
     requires { ⌜ (length (now kind) ≡ 1024) × (length (now value) ≡ 1024) × (s < 32) × (t < 32) × Room at (sourceBytes (now kind) (now value) t s) (now out) ⌝ }
     ensures { λ r. ⌜ Put at (sourceBytes (now (kind .entry)) (now (value .entry)) t s) (now (out .entry)) (now (out .exit)) r ⌝ }
 {
@@ -217,14 +216,7 @@ fn put_source_of(
 }
 
 // Puts the rows of t's sources among n members.
-fn put_sources(
-    out: &mut [u8],
-    at: usize,
-    kind: &[u8],
-    value: &[u64],
-    n: usize,
-    t: usize,
-) -> usize
+fn put_sources(out: &mut [u8], at: usize, kind: &[u8], value: &[u64], n: usize, t: usize) -> usize
     requires { ⌜ (length (now kind) ≡ 1024) × (length (now value) ≡ 1024) × (n ≤ 32) × (t < 32) × Room at (sourcesBytes (now kind) (now value) n t) (now out) ⌝ }
     ensures { λ r. ⌜ Put at (sourcesBytes (now (kind .entry)) (now (value .entry)) n t) (now (out .entry)) (now (out .exit)) r ⌝ }
 {
@@ -292,14 +284,7 @@ fn put_target_table(out: &mut [u8], at: usize, kind: &[u8], n: usize) -> usize
 }
 
 // Puts an edge's row.
-fn put_edge(
-    out: &mut [u8],
-    at: usize,
-    id: u64,
-    source: u8,
-    target: u8,
-    delay: u64,
-) -> usize
+fn put_edge(out: &mut [u8], at: usize, id: u64, source: u8, target: u8, delay: u64) -> usize
     requires { ⌜ at + 24 ≤ length (now out) ⌝ }
     ensures { λ r. ⌜ Put at (edgeBytes id source target delay) (now (out .entry)) (now (out .exit)) r ⌝ }
 {
@@ -394,7 +379,18 @@ fn put_header(out: &mut [u8], n: usize, e: usize, d: usize, t: usize, w: usize) 
     let downstream = transitive + SOURCE * t;
     let end = downstream + TARGET * w;
     let ws = [
-        VERSION, n, e, d, t, w, HEADER, edges, direct, transitive, downstream, end,
+        VERSION,
+        n,
+        e,
+        d,
+        t,
+        w,
+        HEADER,
+        edges,
+        direct,
+        transitive,
+        downstream,
+        end,
     ];
     put_words(out, 0, &ws)
 }

@@ -7,6 +7,7 @@ use libc::STDOUT_FILENO;
 
 // The most that plan bytes can be, and the bytes of the output.
 const MOST: usize = 8728;
+
 const OUT: usize = 32000;
 
 // An output, and how many bytes of it are written.
@@ -279,7 +280,10 @@ fn told(name: &[u8], plan: [u8; MOST], given: usize, room: usize) -> Written
     let c = compile(&p, given, &mut out, room);
     answer(c);
     bytes(&out, c.total);
-    Written { out, total: c.total }
+    Written {
+        out,
+        total: c.total,
+    }
 }
 
 // The same, with every u32 of the image.

@@ -370,27 +370,8 @@ fn lowered(x: Tag, t: Tag, d: u64, own: bool) -> Tag
     x.least(t.subtract(d))
 }
 
-// The bounds, lowered by what target j asks of each of its transitive sources; t is j's earliest tag.
-fn bounds_to(plan: &[u8], bounds: [Tag; 32], t: Tag, j: usize) -> [Tag; 32]
-    requires { ⌜ Laid (now plan) × (j < members (now plan)) ⌝ }
-    ensures { λ r. ⌜ r ≡ boundsTo (now (plan .entry)) t j (transitiveCount (now (plan .entry)) j) bounds ⌝ }
-{
-    let first = rows::transitive_first(plan, j);
-    let count = rows::transitive_count(plan, j);
-    let mut all = bounds;
-    let mut c = 0;
-    while c < count {
-        let k = first + c;
-        let i = rows::transitive_source(plan, k);
-        let x = all[i];
-        all[i] = lowered(x, t, rows::transitive_delay(plan, k), i == j);
-        c += 1;
-    }
-    all
-}
-
 // The downstream bound of every member: the least, over the members downstream of it, of their earliest tag less the
-// minimum delay to them; FOREVER where there are none.
+// minimum delay to them; FOREVER where there are none. One pass over all transitive rows, target by target.
 pub fn bounds_all(plan: &[u8], earliest: [Tag; 32]) -> [Tag; 32]
     requires { ⌜ Laid (now plan) ⌝ }
     ensures { λ r. ⌜ r ≡ boundsIn (now (plan .entry)) earliest (members (now (plan .entry))) ⌝ }
@@ -400,8 +381,16 @@ pub fn bounds_all(plan: &[u8], earliest: [Tag; 32]) -> [Tag; 32]
     let mut j = 0;
     while j < n {
         let t = earliest[j];
-        let next = bounds_to(plan, all, t, j);
-        all = next;
+        let first = rows::transitive_first(plan, j);
+        let count = rows::transitive_count(plan, j);
+        let mut c = 0;
+        while c < count {
+            let k = first + c;
+            let i = rows::transitive_source(plan, k);
+            let x = all[i];
+            all[i] = lowered(x, t, rows::transitive_delay(plan, k), i == j);
+            c += 1;
+        }
         j += 1;
     }
     all

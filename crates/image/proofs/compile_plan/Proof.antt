@@ -6,71 +6,52 @@ use Rattle.image.proofs.Outcomes.{analysed-out, analysed-in}
 use borrow.Author.Needs.{needs}
 use Rattle.image.proofs.compile_plan.Statement.{statement}
 use Rattle.image.proofs.compile_plan.Tie as tie
-use Rattle.image.proofs.compile_plan.Reads as reads
-use Rattle.image.proofs.compile_plan.Lts as lts
-use Rattle.delays.proofs.analyse.Reads as analyse-reads
-use Rattle.image.proofs.fit.Reads as fit-reads
-use Rattle.image.proofs.refused.Reads as refused-reads
 
--- src/lib.rt:487:30
 slice-aggregate-analyse : tie.Need-slice-aggregate-analyse
 slice-aggregate-analyse c = search needs
 
--- src/lib.rt:487:39
 slice-aggregate-analyse-2 : tie.Need-slice-aggregate-analyse-2
 slice-aggregate-analyse-2 c = search needs
 
--- src/lib.rt:487:48
 slice-aggregate-analyse-3 : tie.Need-slice-aggregate-analyse-3
 slice-aggregate-analyse-3 c = search needs
 
--- src/lib.rt:487:57
 slice-aggregate-analyse-4 : tie.Need-slice-aggregate-analyse-4
 slice-aggregate-analyse-4 c = search needs
 
--- src/lib.rt:487:9
 analyse-requires : tie.Need-analyse-requires
 analyse-requires c κs = search needs
 
--- src/lib.rt:489:9
 refused-requires : tie.Need-refused-requires
 refused-requires c κs = search needs
 
--- src/lib.rt:489:9
 returns : tie.Need-returns
 returns c =
-    let r : c .before .before .before .before .before .before .before .analyse .result ≡ refusalOf (c .before .before .before .before .before .before .before .before .before .before .before .before .before .args .p) = c .before .before .before .before .before .before .before .analyse .ensures .answer in
-    analysed-out (c .before .before .before .before .before .before .before .before .before .before .before .before .before .args .p) (c .before .before .before .before .before .before .before .before .before .before .before .before .before .args .out .now) (c .refused .result) (rw r at (ne-eqb (c .before .before .before .before .before .before .before .analyse .result .number) 0 (c .before .if1 .taken))) (c .refused .ensures ∙ ap refused r)
+    let start = c .before .before .before .before .before .before .before .before .before .before .before .before .before in
+    let r : c .before .before .before .before .before .before .before .analyse .result ≡ refusalOf (start .args .p) = c .before .before .before .before .before .before .before .analyse .ensures .answer in analysed-out (start .args .p) (start .args .out .now) (c .refused .result) (rw r at (ne-eqb (c .before .before .before .before .before .before .before .analyse .result .number) 0 (c .before .if1 .taken))) (c .refused .ensures ∙ ap refused r)
 
--- src/lib.rt:491:17
 slice-aggregate-fit : tie.Need-slice-aggregate-fit
 slice-aggregate-fit c = search needs
 
--- src/lib.rt:491:22
 slice-aggregate-fit-2 : tie.Need-slice-aggregate-fit-2
 slice-aggregate-fit-2 c = search needs
 
--- src/lib.rt:491:27
 slice-aggregate-fit-3 : tie.Need-slice-aggregate-fit-3
 slice-aggregate-fit-3 c = search needs
 
--- src/lib.rt:491:32
 slice-aggregate-fit-4 : tie.Need-slice-aggregate-fit-4
 slice-aggregate-fit-4 c = search needs
 
--- src/lib.rt:491:5
 fit-requires : tie.Need-fit-requires
 fit-requires c κs = search needs
 
--- src/lib.rt:479:1
 same-length : tie.Need-same-length
 same-length c = search needs
 
--- src/lib.rt:479:1
 returns-2 : tie.Need-returns-2
 returns-2 c =
-    let r : c .before .before .before .before .before .before .before .before .before .before .before .before .before .before .analyse .result ≡ refusalOf (c .before .before .before .before .before .before .before .before .before .before .before .before .before .before .before .before .before .before .before .before .args .p) = c .before .before .before .before .before .before .before .before .before .before .before .before .before .before .analyse .ensures .answer in
-    analysed-in (c .before .before .before .before .before .before .before .before .before .before .before .before .before .before .before .before .before .before .before .before .args .p) (c .before .before .before .before .before .before .before .before .before .before .before .before .before .before .before .before .before .before .before .before .args .out .now) (rw r at (eq-eqb (c .before .before .before .before .before .before .before .before .before .before .before .before .before .before .analyse .result .number) 0 (c .before .before .before .before .before .before .before .before .if1 .left))) (c .before .before .fit .ensures)
+    let start = c .before .before .before .before .before .before .before .before .before .before .before .before .before .before .before .before .before .before .before .before in
+    let r : c .before .before .before .before .before .before .before .before .before .before .before .before .before .before .analyse .result ≡ refusalOf (start .args .p) = c .before .before .before .before .before .before .before .before .before .before .before .before .before .before .analyse .ensures .answer in analysed-in (start .args .p) (start .args .out .now) (rw r at (eq-eqb (c .before .before .before .before .before .before .before .before .before .before .before .before .before .before .analyse .result .number) 0 (c .before .before .before .before .before .before .before .before .if1 .left))) (c .before .before .fit .ensures)
 
 pub compile-plan-spec : {M : Type 1} → statement M
 compile-plan-spec =

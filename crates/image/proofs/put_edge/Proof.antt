@@ -7,52 +7,42 @@ use Rattle.image.proofs.Rows.{length-words}
 use borrow.Author.Needs.{needs}
 use Rattle.image.proofs.put_edge.Statement.{statement}
 use Rattle.image.proofs.put_edge.Tie as tie
-use Rattle.image.proofs.put_edge.Reads as reads
-use Rattle.image.proofs.put_edge.Lts as lts
-use Rattle.image.proofs.put_u64.Reads as put-u64-reads
-use Rattle.image.proofs.put_words.Reads as put-words-reads
-use Rattle.image.proofs.wide.Reads as wide-reads
 
--- src/lib.rt:252:15
 wide-requires : tie.Need-wide-requires
 wide-requires c κs = search needs
 
--- src/lib.rt:252:29
 wide-requires-2 : tie.Need-wide-requires-2
 wide-requires-2 c κs = search needs
 
--- src/lib.rt:253:9
 put-u64-requires : tie.Need-put-u64-requires
 put-u64-requires c κs = search needs
 
--- src/lib.rt:254:37
 slice-aggregate-put-words : tie.Need-slice-aggregate-put-words
 slice-aggregate-put-words c = search needs
 
--- src/lib.rt:254:9
 put-words-requires : tie.Need-put-words-requires
-put-words-requires c κs =
-    (omega
-    (arith,
+put-words-requires c κs = (
+  omega (
+    arith,
     put-next 16 (omega (arith, length-bytes 8 (c .before .before .before .before .before .before .before .before .before .args .id))) (c .before .before .before .before .put-u64 .ensures),
-    length-words (c .before .before .before .before .before .before .before .wide .result ∷ c .before .before .before .before .before .before .wide2 .result ∷ [])),
-    (omega arith, (omega arith, tt)))
+    length-words (c .before .before .before .before .before .before .before .wide .result ∷ c .before .before .before .before .before .before .wide2 .result ∷ []),
+  ),
+  (omega arith, (omega arith, tt)),
+)
 
--- src/lib.rt:255:5
 put-u64-requires-2 : tie.Need-put-u64-requires-2
 put-u64-requires-2 c κs =
     put-next 8
-    (omega
-    (arith,
-    put-next 16 (omega (arith, length-bytes 8 (c .before .before .before .before .before .before .before .before .before .before .before .before .before .args .id))) (c .before .before .before .before .before .before .before .before .put-u64 .ensures),
-    length-words (c .before .before .before .before .before .before .before .before .before .before .before .wide .result ∷ c .before .before .before .before .before .before .before .before .before .before .wide2 .result ∷ [])))
+    (omega (
+      arith,
+      put-next 16 (omega (arith, length-bytes 8 (c .before .before .before .before .before .before .before .before .before .before .before .before .before .args .id))) (c .before .before .before .before .before .before .before .before .put-u64 .ensures),
+      length-words (c .before .before .before .before .before .before .before .before .before .before .before .wide .result ∷ c .before .before .before .before .before .before .before .before .before .before .wide2 .result ∷ []),
+    ))
     (c .before .before .before .put-words .ensures)
 
--- src/lib.rt:241:1
 same-length : tie.Need-same-length
 same-length c = search needs
 
--- src/lib.rt:241:1
 returns : tie.Need-returns
 unfolding edgeBytes
 returns c =

@@ -9,9 +9,6 @@ use Rattle.image.proofs.Puts.{Going, go-first, go-room, go-on, go-lengt
 use borrow.Author.Needs.{needs}
 use Rattle.image.proofs.put_edges.Statement.{statement}
 use Rattle.image.proofs.put_edges.Tie as tie
-use Rattle.image.proofs.put_edges.Reads as reads
-use Rattle.image.proofs.put_edges.Lts as lts
-use Rattle.image.proofs.put_edge.Reads as put-edge-reads
 
 abbrev Inv-loop : tie.InvT-loop
 Inv-loop out₀ at routes sources targets delays e next₀ k₀ out next k = Going at (edgeIn routes sources targets delays) e k out₀ out next
@@ -19,56 +16,45 @@ Inv-loop out₀ at routes sources targets delays e next₀ k₀ out next k = Goi
 abbrev μ-loop : tie.MeasureT-loop
 μ-loop out₀ at routes sources targets delays e next₀ k₀ out next k = e - k
 
--- src/lib.rt:273:5
 loop-holds : tie.Need-loop-holds Inv-loop μ-loop
 unfolding edgesBytes
 loop-holds c = go-first _ _ _ _ (c .before .before .before .before .before .pre .4)
 
--- src/lib.rt:274:36
 mul-put-edge : tie.Need-mul-put-edge Inv-loop μ-loop
 mul-put-edge c = search needs
 
--- src/lib.rt:274:36
 shared-slice-read-put-edge : tie.Need-shared-slice-read-put-edge Inv-loop μ-loop
 shared-slice-read-put-edge c = search needs
 
--- src/lib.rt:274:47
 shared-slice-read-put-edge-2 : tie.Need-shared-slice-read-put-edge-2 Inv-loop μ-loop
 shared-slice-read-put-edge-2 c = search needs
 
--- src/lib.rt:274:59
 shared-slice-read-put-edge-3 : tie.Need-shared-slice-read-put-edge-3 Inv-loop μ-loop
 shared-slice-read-put-edge-3 c = search needs
 
--- src/lib.rt:274:71
 mul-put-edge-2 : tie.Need-mul-put-edge-2 Inv-loop μ-loop
 mul-put-edge-2 c = search needs
 
--- src/lib.rt:274:71
 shared-slice-read-put-edge-4 : tie.Need-shared-slice-read-put-edge-4 Inv-loop μ-loop
 shared-slice-read-put-edge-4 c = search needs
 
--- src/lib.rt:274:9
 put-edge-requires : tie.Need-put-edge-requires Inv-loop μ-loop
-put-edge-requires c κs = omega (arith, go-room (c .before .before .before .before .before .before .loop .inv) (omega arith), length-edge (getD (c .before .before .before .before .before .before .before .before .before .before .before .before .args .routes .now) (c .before .before .before .before .before .before .loop .k) 0) (getD (c .before .before .before .before .before .before .before .before .before .before .before .before .args .sources .now) (c .before .before .before .before .before .before .loop .k) 0) (getD (c .before .before .before .before .before .before .before .before .before .before .before .before .args .targets .now) (c .before .before .before .before .before .before .loop .k) 0) (getD (c .before .before .before .before .before .before .before .before .before .before .before .before .args .delays .now) (c .before .before .before .before .before .before .loop .k) 0))
+put-edge-requires c κs =
+    let start = c .before .before .before .before .before .before .before .before .before .before .before .before in
+    omega (arith, go-room (c .before .before .before .before .before .before .loop .inv) (omega arith), length-edge (getD (start .args .routes .now) (c .before .before .before .before .before .before .loop .k) 0) (getD (start .args .sources .now) (c .before .before .before .before .before .before .loop .k) 0) (getD (start .args .targets .now) (c .before .before .before .before .before .before .loop .k) 0) (getD (start .args .delays .now) (c .before .before .before .before .before .before .loop .k) 0))
 
--- src/lib.rt:275:9
 add-k : tie.Need-add-k Inv-loop μ-loop
 add-k c = omega arith
 
--- src/lib.rt:273:5
 loop-less : tie.Need-loop-less Inv-loop μ-loop
 loop-less c = omega arith
 
--- src/lib.rt:273:5
 loop-again : tie.Need-loop-again Inv-loop μ-loop
 loop-again c = go-on (c .before .before .before .before .before .before .before .before .before .loop .inv) (omega arith) (c .before .before .put-edge .ensures)
 
--- src/lib.rt:259:1
 same-length : tie.Need-same-length Inv-loop μ-loop
 same-length c = go-length (c .before .loop .inv) (omega arith)
 
--- src/lib.rt:259:1
 returns : tie.Need-returns Inv-loop μ-loop
 unfolding edgesBytes
 returns c = go-last (c .before .loop .inv) (omega arith)

@@ -5,9 +5,6 @@ use Rattle.image.proofs.Puts.{Going, go-first, go-room, go-on, go-lengt
 use borrow.Author.Needs.{needs}
 use Rattle.image.proofs.put_source_table.Statement.{statement}
 use Rattle.image.proofs.put_source_table.Tie as tie
-use Rattle.image.proofs.put_source_table.Reads as reads
-use Rattle.image.proofs.put_source_table.Lts as lts
-use Rattle.image.proofs.put_sources.Reads as put-sources-reads
 
 abbrev Inv-loop : tie.InvT-loop
 Inv-loop out₀ at kind value n next₀ t₀ out next t = Going at (sourcesBytes kind value n) n t out₀ out next
@@ -15,32 +12,25 @@ Inv-loop out₀ at kind value n next₀ t₀ out next t = Going at (sourcesBytes
 abbrev μ-loop : tie.MeasureT-loop
 μ-loop out₀ at kind value n next₀ t₀ out next t = n - t
 
--- src/lib.rt:187:5
 loop-holds : tie.Need-loop-holds Inv-loop μ-loop
 unfolding sourceTable
 loop-holds c = go-first _ _ _ _ (c .before .before .before .pre .3)
 
--- src/lib.rt:188:9
 put-sources-requires : tie.Need-put-sources-requires Inv-loop μ-loop
 put-sources-requires c κs = (omega arith, omega arith, omega arith, omega arith, go-room (c .before .before .loop .inv) (omega arith))
 
--- src/lib.rt:189:9
 add-t : tie.Need-add-t Inv-loop μ-loop
 add-t c = omega arith
 
--- src/lib.rt:187:5
 loop-less : tie.Need-loop-less Inv-loop μ-loop
 loop-less c = omega arith
 
--- src/lib.rt:187:5
 loop-again : tie.Need-loop-again Inv-loop μ-loop
 loop-again c = go-on (c .before .before .before .before .before .loop .inv) (omega arith) (c .before .before .put-sources .ensures)
 
--- src/lib.rt:181:1
 same-length : tie.Need-same-length Inv-loop μ-loop
 same-length c = go-length (c .before .loop .inv) (omega arith)
 
--- src/lib.rt:181:1
 returns : tie.Need-returns Inv-loop μ-loop
 unfolding sourceTable
 returns c = go-last (c .before .loop .inv) (omega arith)

@@ -5,9 +5,6 @@ use Rattle.image.proofs.Puts.{Going, go-first, go-room, go-on, go-lengt
 use borrow.Author.Needs.{needs}
 use Rattle.image.proofs.put_sources.Statement.{statement}
 use Rattle.image.proofs.put_sources.Tie as tie
-use Rattle.image.proofs.put_sources.Reads as reads
-use Rattle.image.proofs.put_sources.Lts as lts
-use Rattle.image.proofs.put_source_of.Reads as put-source-of-reads
 
 abbrev Inv-loop : tie.InvT-loop
 Inv-loop out₀ at kind value n t next₀ s₀ out next s = Going at (sourceBytes kind value t) n s out₀ out next
@@ -15,32 +12,25 @@ Inv-loop out₀ at kind value n t next₀ s₀ out next s = Going at (sourceByte
 abbrev μ-loop : tie.MeasureT-loop
 μ-loop out₀ at kind value n t next₀ s₀ out next s = n - s
 
--- src/lib.rt:173:5
 loop-holds : tie.Need-loop-holds Inv-loop μ-loop
 unfolding sourcesBytes
 loop-holds c = go-first _ _ _ _ (c .before .before .before .pre .4)
 
--- src/lib.rt:174:9
 put-source-of-requires : tie.Need-put-source-of-requires Inv-loop μ-loop
 put-source-of-requires c κs = (omega arith, omega arith, omega arith, omega arith, go-room (c .before .before .loop .inv) (omega arith))
 
--- src/lib.rt:175:9
 add-s : tie.Need-add-s Inv-loop μ-loop
 add-s c = omega arith
 
--- src/lib.rt:173:5
 loop-less : tie.Need-loop-less Inv-loop μ-loop
 loop-less c = omega arith
 
--- src/lib.rt:173:5
 loop-again : tie.Need-loop-again Inv-loop μ-loop
 loop-again c = go-on (c .before .before .before .before .before .loop .inv) (omega arith) (c .before .before .put-source-of .ensures)
 
--- src/lib.rt:160:1
 same-length : tie.Need-same-length Inv-loop μ-loop
 same-length c = go-length (c .before .loop .inv) (omega arith)
 
--- src/lib.rt:160:1
 returns : tie.Need-returns Inv-loop μ-loop
 unfolding sourcesBytes
 returns c = go-last (c .before .loop .inv) (omega arith)

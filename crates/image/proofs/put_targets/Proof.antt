@@ -5,9 +5,6 @@ use Rattle.image.proofs.Puts.{Going, go-first, go-room, go-on, go-lengt
 use borrow.Author.Needs.{needs}
 use Rattle.image.proofs.put_targets.Statement.{statement}
 use Rattle.image.proofs.put_targets.Tie as tie
-use Rattle.image.proofs.put_targets.Reads as reads
-use Rattle.image.proofs.put_targets.Lts as lts
-use Rattle.image.proofs.put_target_of.Reads as put-target-of-reads
 
 abbrev Inv-loop : tie.InvT-loop
 Inv-loop out₀ at kind n s next₀ t₀ out next t = Going at (targetBytes kind s) n t out₀ out next
@@ -15,32 +12,25 @@ Inv-loop out₀ at kind n s next₀ t₀ out next t = Going at (targetBytes kind
 abbrev μ-loop : tie.MeasureT-loop
 μ-loop out₀ at kind n s next₀ t₀ out next t = n - t
 
--- src/lib.rt:213:5
 loop-holds : tie.Need-loop-holds Inv-loop μ-loop
 unfolding targetsBytes
 loop-holds c = go-first _ _ _ _ (c .before .before .pre .3)
 
--- src/lib.rt:214:9
 put-target-of-requires : tie.Need-put-target-of-requires Inv-loop μ-loop
 put-target-of-requires c κs = (omega arith, omega arith, omega arith, go-room (c .before .before .loop .inv) (omega arith))
 
--- src/lib.rt:215:9
 add-t : tie.Need-add-t Inv-loop μ-loop
 add-t c = omega arith
 
--- src/lib.rt:213:5
 loop-less : tie.Need-loop-less Inv-loop μ-loop
 loop-less c = omega arith
 
--- src/lib.rt:213:5
 loop-again : tie.Need-loop-again Inv-loop μ-loop
 loop-again c = go-on (c .before .before .before .before .before .loop .inv) (omega arith) (c .before .before .put-target-of .ensures)
 
--- src/lib.rt:207:1
 same-length : tie.Need-same-length Inv-loop μ-loop
 same-length c = go-length (c .before .loop .inv) (omega arith)
 
--- src/lib.rt:207:1
 returns : tie.Need-returns Inv-loop μ-loop
 unfolding targetsBytes
 returns c = go-last (c .before .loop .inv) (omega arith)

@@ -3,23 +3,16 @@ use Rattle.basis.proofs.Numbers.{length-bytes}
 use borrow.Author.Needs.{needs}
 use Rattle.image.proofs.put_u64.Statement.{statement}
 use Rattle.image.proofs.put_u64.Tie as tie
-use Rattle.image.proofs.put_u64.Reads as reads
-use Rattle.image.proofs.put_u64.Lts as lts
-use Rattle.basis.proofs.write_u64.Reads as write-u64-reads
 
--- src/lib.rt:112:5
 write-u64-requires : tie.Need-write-u64-requires
 write-u64-requires c κs = search needs
 
--- src/lib.rt:113:5
 add-result : tie.Need-add-result
 add-result c = search needs
 
--- src/lib.rt:108:1
 same-length : tie.Need-same-length
 same-length c = search needs
 
--- src/lib.rt:108:1
 returns : tie.Need-returns
 returns c = record { placed = c .before .before .write-u64 .ensures; past = omega (arith, length-bytes 8 (c .before .before .before .before .before .args .v)) }
 

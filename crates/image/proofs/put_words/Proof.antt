@@ -11,9 +11,6 @@ use Rattle.image.proofs.Puts.{Going, go-first, go-room, go-on, go-lengt
 use borrow.Author.Needs.{needs}
 use Rattle.image.proofs.put_words.Statement.{statement}
 use Rattle.image.proofs.put_words.Tie as tie
-use Rattle.image.proofs.put_words.Reads as reads
-use Rattle.image.proofs.put_words.Lts as lts
-use Rattle.image.proofs.put_u32.Reads as put-u32-reads
 
 abbrev wordAt : List ℕ → ℕ → List ℕ
 wordAt ws k = bytes 4 (getD ws k 0)
@@ -24,39 +21,32 @@ Inv-loop out₀ at ws next₀ k₀ out next k = Going at (wordAt ws) (length ws)
 abbrev μ-loop : tie.MeasureT-loop
 μ-loop out₀ at ws next₀ k₀ out next k = length ws - k
 
--- src/lib.rt:123:5
 loop-holds : tie.Need-loop-holds Inv-loop μ-loop
 loop-holds c = go-first _ _ _ _ (rw (laid-all (bytes 4) 0 (c .before .before .args .ws .now)) (c .before .before .pre .0))
 
--- src/lib.rt:124:35
 mul-put-u32 : tie.Need-mul-put-u32 Inv-loop μ-loop
 mul-put-u32 c = search needs
 
--- src/lib.rt:124:35
 shared-slice-read-put-u32 : tie.Need-shared-slice-read-put-u32 Inv-loop μ-loop
 shared-slice-read-put-u32 c = search needs
 
--- src/lib.rt:124:9
 put-u32-requires : tie.Need-put-u32-requires Inv-loop μ-loop
-put-u32-requires c κs = (omega (arith, go-room (c .before .before .before .loop .inv) (omega arith), length-bytes 4 (getD (c .before .before .before .before .before .before .args .ws .now) (c .before .before .before .loop .k) 0)), small-at (c .before .before .before .before .before .before .args .ws .now) (c .before .before .before .loop .k) (c .before .before .before .before .before .before .pre .1) (omega arith))
+put-u32-requires c κs =
+    let start = c .before .before .before .before .before .before in
+    (omega (arith, go-room (c .before .before .before .loop .inv) (omega arith), length-bytes 4 (getD (start .args .ws .now) (c .before .before .before .loop .k) 0)), small-at (start .args .ws .now) (c .before .before .before .loop .k) (start .pre .1) (omega arith))
 
--- src/lib.rt:125:9
 add-k : tie.Need-add-k Inv-loop μ-loop
 add-k c = search needs
 
--- src/lib.rt:123:5
 loop-less : tie.Need-loop-less Inv-loop μ-loop
 loop-less c = omega arith
 
--- src/lib.rt:123:5
 loop-again : tie.Need-loop-again Inv-loop μ-loop
 loop-again c = go-on (c .before .before .before .before .before .before .loop .inv) (omega arith) (c .before .before .put-u32 .ensures)
 
--- src/lib.rt:117:1
 same-length : tie.Need-same-length Inv-loop μ-loop
 same-length c = go-length (c .before .loop .inv) (omega arith)
 
--- src/lib.rt:117:1
 returns : tie.Need-returns Inv-loop μ-loop
 returns c = rw (← laid-all (bytes 4) 0 (c .before .before .before .before .args .ws .now)) (go-last (c .before .loop .inv) (omega arith))
 

@@ -4,12 +4,8 @@ use native.Mathlib.Omega.{arith}
 use borrow.Author.Needs.{needs}
 use Rattle.image.specs.Writing.{summed, targetCount}
 use Rattle.image.proofs.Counts.{summed-more, summed-small, targets-most}
-use borrow.Author.Needs.{needs}
 use Rattle.image.proofs.targets_total.Statement.{statement}
 use Rattle.image.proofs.targets_total.Tie as tie
-use Rattle.image.proofs.targets_total.Reads as reads
-use Rattle.image.proofs.targets_total.Lts as lts
-use Rattle.image.proofs.target_count.Reads as target-count-reads
 
 abbrev Inv-loop : tie.InvT-loop
 Inv-loop kind n sum₀ s₀ sum s = (s ≤ n) × (sum ≡ summed (targetCount kind n) s)
@@ -17,32 +13,27 @@ Inv-loop kind n sum₀ s₀ sum s = (s ≤ n) × (sum ≡ summed (targetCount ki
 abbrev μ-loop : tie.MeasureT-loop
 μ-loop kind n sum₀ s₀ sum s = n - s
 
--- src/lib.rt:86:5
 loop-holds : tie.Need-loop-holds Inv-loop μ-loop
 unfolding summed
 loop-holds c = (omega arith, refl)
 
--- src/lib.rt:87:16
 target-count-requires : tie.Need-target-count-requires Inv-loop μ-loop
 target-count-requires c κs = search needs
 
--- src/lib.rt:87:9
 add-sum : tie.Need-add-sum Inv-loop μ-loop
-add-sum c = omega (arith, summed-small (targetCount (c .before .before .before .before .args .kind .now) (c .before .before .before .before .args .n)) (c .before .before .before .before .args .n) (c .before .before .loop .s) (λ i. targets-most (c .before .before .before .before .args .kind .now) (c .before .before .before .before .args .n) i) (omega arith) (omega arith), targets-most (c .before .before .before .before .args .kind .now) (c .before .before .before .before .args .n) (c .before .before .loop .s))
+add-sum c =
+    let start = c .before .before .before .before in
+    omega (arith, summed-small (targetCount (start .args .kind .now) (start .args .n)) (start .args .n) (c .before .before .loop .s) (λ i. targets-most (start .args .kind .now) (start .args .n) i) (omega arith) (omega arith), targets-most (start .args .kind .now) (start .args .n) (c .before .before .loop .s))
 
--- src/lib.rt:88:9
 add-s : tie.Need-add-s Inv-loop μ-loop
 add-s c = omega arith
 
--- src/lib.rt:86:5
 loop-less : tie.Need-loop-less Inv-loop μ-loop
 loop-less c = omega arith
 
--- src/lib.rt:86:5
 loop-again : tie.Need-loop-again Inv-loop μ-loop
 loop-again c = (omega arith, cc (summed-more (targetCount (c .before .before .before .before .args .kind .now) (c .before .before .before .before .args .n)) (c .before .before .loop .s)))
 
--- src/lib.rt:80:1
 returns : tie.Need-returns Inv-loop μ-loop
 returns c = let all : c .before .loop .s ≡ c .before .before .before .args .n = omega arith in cc
 

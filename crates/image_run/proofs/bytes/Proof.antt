@@ -4,70 +4,49 @@ use lib.Seq.{length-take-le}
 use borrow.Author.Needs.{needs}
 use Rattle.image_run.proofs.bytes.Statement.{statement}
 use Rattle.image_run.proofs.bytes.Tie as tie
-use Rattle.image_run.proofs.bytes.Reads as reads
-use Rattle.image_run.proofs.bytes.Lts as lts
-use Rattle.image_run.proofs.digest.Reads as digest-reads
-use Rattle.image_run.proofs.item.Reads as item-reads
-use Rattle.image_run.proofs.marked.Reads as marked-reads
-use Rattle.image_run.proofs.text.Reads as text-reads
 
--- src/main.rt:174:14
 slice-aggregate-text : tie.Need-slice-aggregate-text
 slice-aggregate-text c = search needs
 
--- src/main.rt:174:9
 text-requires : tie.Need-text-requires
 text-requires c κs = search needs
 
--- src/main.rt:175:21
 slice-aggregate-digest : tie.Need-slice-aggregate-digest
 slice-aggregate-digest c = sym (length-take-le _ _ (omega arith))
 
--- src/main.rt:175:14
 digest-requires : tie.Need-digest-requires
 digest-requires c κs = search needs
 
--- src/main.rt:175:9
 item-requires : tie.Need-item-requires
 item-requires c κs = search needs
 
--- src/main.rt:176:14
 slice-aggregate-text-2 : tie.Need-slice-aggregate-text-2
 slice-aggregate-text-2 c = search needs
 
--- src/main.rt:176:9
 text-requires-2 : tie.Need-text-requires-2
 text-requires-2 c κs = search needs
 
--- src/main.rt:177:21
 sub-marked : tie.Need-sub-marked
 sub-marked c = search needs
 
--- src/main.rt:177:21
 part-marked-start : tie.Need-part-marked-start
 part-marked-start c = search needs
 
--- src/main.rt:177:21
 part-marked-end : tie.Need-part-marked-end
 part-marked-end c = search needs
 
--- src/main.rt:177:14
 marked-requires : tie.Need-marked-requires
 marked-requires c κs = search needs
 
--- src/main.rt:177:9
 item-requires-2 : tie.Need-item-requires-2
 item-requires-2 c κs = search needs
 
--- src/main.rt:179:10
 slice-aggregate-text-3 : tie.Need-slice-aggregate-text-3
 slice-aggregate-text-3 c = search needs
 
--- src/main.rt:179:5
 text-requires-3 : tie.Need-text-requires-3
 text-requires-3 c κs = search needs
 
--- src/main.rt:172:1
 returns : tie.Need-returns
 returns c = search needs
 

@@ -4,31 +4,22 @@ use lib.Seq.{length-take-le}
 use borrow.Author.Needs.{needs}
 use Rattle.image_run.proofs.compile.Statement.{statement}
 use Rattle.image_run.proofs.compile.Tie as tie
-use Rattle.image_run.proofs.compile.Reads as reads
-use Rattle.image_run.proofs.compile.Lts as lts
-use Rattle.image.proofs.compile.Reads as compile-reads
 
--- src/main.rt:156:20
 slice-aggregate-compile : tie.Need-slice-aggregate-compile
 slice-aggregate-compile c = sym (length-take-le _ _ (c .before .before .before .pre .0))
 
--- src/main.rt:156:36
 slice-relend-prefix-compile : tie.Need-slice-relend-prefix-compile
 slice-relend-prefix-compile c = search needs
 
--- src/main.rt:156:36
 slice-aggregate-compile-2 : tie.Need-slice-aggregate-compile-2
 slice-aggregate-compile-2 c = sym (length-take-le _ _ (c .before .before .before .before .pre .1))
 
--- src/main.rt:156:5
 compile-requires : tie.Need-compile-requires
 compile-requires c κs = search needs
 
--- src/main.rt:153:1
 same-length : tie.Need-same-length
 same-length c = search needs
 
--- src/main.rt:153:1
 returns : tie.Need-returns
 returns c = search needs
 

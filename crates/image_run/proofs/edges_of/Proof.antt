@@ -2,9 +2,6 @@ use Prim.Native.Nat.{_<_, _≤_, _-_}
 use borrow.Author.Needs.{needs}
 use Rattle.image_run.proofs.edges_of.Statement.{statement}
 use Rattle.image_run.proofs.edges_of.Tie as tie
-use Rattle.image_run.proofs.edges_of.Reads as reads
-use Rattle.image_run.proofs.edges_of.Lts as lts
-use Rattle.image_run.proofs.edge_of.Reads as edge-of-reads
 
 abbrev Inv-loop : tie.InvT-loop
 Inv-loop c₀ k₀ c k = k ≤ 256
@@ -12,27 +9,21 @@ Inv-loop c₀ k₀ c k = k ≤ 256
 abbrev μ-loop : tie.MeasureT-loop
 μ-loop c₀ k₀ c k = 256 - k
 
--- src/main.rt:235:5
 loop-holds : tie.Need-loop-holds Inv-loop μ-loop
 loop-holds c = search needs
 
--- src/main.rt:236:13
 edge-of-requires : tie.Need-edge-of-requires Inv-loop μ-loop
 edge-of-requires c κs = search needs
 
--- src/main.rt:238:9
 add-k : tie.Need-add-k Inv-loop μ-loop
 add-k c = search needs
 
--- src/main.rt:235:5
 loop-less : tie.Need-loop-less Inv-loop μ-loop
 loop-less c = search needs
 
--- src/main.rt:235:5
 loop-again : tie.Need-loop-again Inv-loop μ-loop
 loop-again c = search needs
 
--- src/main.rt:232:1
 returns : tie.Need-returns Inv-loop μ-loop
 returns c = search needs
 

@@ -4,9 +4,6 @@ use lib.ListN.{length}
 use borrow.Author.Needs.{needs}
 use Rattle.image_run.proofs.marked.Statement.{statement}
 use Rattle.image_run.proofs.marked.Tie as tie
-use Rattle.image_run.proofs.marked.Reads as reads
-use Rattle.image_run.proofs.marked.Lts as lts
-use Rattle.image_run.proofs.one_if.Reads as one-if-reads
 
 abbrev Inv-loop : tie.InvT-loop
 Inv-loop b sum₀ i₀ sum i = (i ≤ length b) × (sum ≤ i)
@@ -14,35 +11,27 @@ Inv-loop b sum₀ i₀ sum i = (i ≤ length b) × (sum ≤ i)
 abbrev μ-loop : tie.MeasureT-loop
 μ-loop b sum₀ i₀ sum i = length b - i
 
--- src/main.rt:121:5
 loop-holds : tie.Need-loop-holds Inv-loop μ-loop
 loop-holds c = search needs
 
--- src/main.rt:122:23
 shared-slice-read-one-if : tie.Need-shared-slice-read-one-if Inv-loop μ-loop
 shared-slice-read-one-if c = search needs
 
--- src/main.rt:122:16
 one-if-requires : tie.Need-one-if-requires Inv-loop μ-loop
 one-if-requires c κs = search needs
 
--- src/main.rt:122:9
 add-sum : tie.Need-add-sum Inv-loop μ-loop
 add-sum c = search needs
 
--- src/main.rt:123:9
 add-i : tie.Need-add-i Inv-loop μ-loop
 add-i c = search needs
 
--- src/main.rt:121:5
 loop-less : tie.Need-loop-less Inv-loop μ-loop
 loop-less c = search needs
 
--- src/main.rt:121:5
 loop-again : tie.Need-loop-again Inv-loop μ-loop
 loop-again c = search needs
 
--- src/main.rt:118:1
 returns : tie.Need-returns Inv-loop μ-loop
 returns c = search needs
 

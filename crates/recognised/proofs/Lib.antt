@@ -1,0 +1,15 @@
+pub mod Step
+pub mod Unique
+pub mod Sits
+pub mod Tables
+pub mod Lookup
+pub mod Cells
+pub mod Fields
+pub mod Matrix
+pub mod Sound
+pub mod Complete
+pub mod Walks
+pub mod Readback
+pub mod Answers
+pub mod Main
+pub mod Usable
