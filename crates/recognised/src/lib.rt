@@ -3,44 +3,48 @@
 ghost use mathlib.Core.Path.{_≡_};
 ghost use mathlib.Core.Logic.{_≢_};
 ghost use mathlib.Core.Bool.{true};
-ghost use Prim.Native.Nat.{ℕ, _+_, _-_, _*_, _<_, _≤_, _^_};
-ghost use lib.ListN.{getD, length};
+ghost use Prim.Native.Nat.{ℕ, _+_, _*_, _<_, _≤_};
+ghost use lib.ListN.{length};
 ghost use lib.Dec.{ltb};
-ghost use Rattle.basis.specs.Numbers.{numberAt};
-ghost use Rattle.delays.specs.Graph.{far, plus, directOf, minimumOf};
-ghost use Rattle.delays.specs.Lists.{sourced, passing};
-ghost use Rattle.delays.specs.Cells.{cell, entry, grid, distOf};
-ghost use Rattle.rows.specs.Rows.{members, edges, directs, transitives, downstreams, edgesAt, directsAt, transitivesAt, downstreamsAt, field, edgeId, edgeSource, edgeTarget, edgeDelay, transitiveFirst, transitiveCount, directFirst, directCount, downstreamFirst, downstreamCount};
+ghost use Rattle.delays.specs.Graph.{far, none, plus, direct};
+ghost use Rattle.delays.specs.Lists.{sourced, passing, directSources};
+ghost use Rattle.delays.specs.Cells.{cell, grid, distOf};
+ghost use Rattle.rows.specs.Rows.{members, edges, directs, directsAt, field, edgeId, edgeSource, edgeTarget, edgeDelay, directFirst, directCount, downstreamFirst, downstreamCount};
 ghost use Rattle.rows.specs.Plans.{planIn};
+ghost use Rattle.rows.specs.Loops.{delayOf};
 ghost use Rattle.rows.specs.Nets.{minimumIn};
 ghost use Rattle.image.specs.Image.{laid, sourceRow, targetRow};
 ghost use Rattle.recognised.specs.Steps.{rest, step, Minimal};
 ghost use Rattle.recognised.specs.Cells.{Tells, Blank, Lowered, Swept, Covers, Fair, Filled};
 ghost use Rattle.recognised.specs.Sits.{Sits};
 ghost use Rattle.recognised.specs.Walks.{sourceOf, near, onward, Whole, Readable, Reached};
+ghost use Rattle.recognised.specs.Facts.{Header, Places, MemberRight, EdgeRight, Routed, Rowed, Tabled};
 ghost use Rattle.recognised.specs.Recognised.{limit, refusalIn};
-ghost use Rattle.delays.specs.Lists.{directSources};
-ghost use Rattle.rows.specs.Loops.{delayOf};
-ghost use Rattle.delays.specs.Graph.{none, direct};
-ghost use Rattle.delays.specs.Lists.{Source};
-ghost use Rattle.recognised.specs.Facts.{Header, Places, MemberRight, EdgeRight, Routed, Rowed, Tabled, Image};
 use delays::Dist;
+use rows::EDGE;
+use rows::HEADER;
+use rows::MEMBER;
+use rows::SOURCE;
+use rows::TARGET;
 
-const HEADER: usize = 48;
-const MEMBER: usize = 40;
-const EDGE: usize = 24;
-const SOURCE: usize = 16;
-const TARGET: usize = 4;
-
+// The version, and the most members, edges and rows of a table.
 const VERSION: usize = 1;
+
 const MEMBERS: usize = 32;
+
 const EDGES: usize = 256;
+
 const ROWS: usize = 1024;
+
+// Entries to a row of a matrix.
 const ROW: usize = 32;
+
+// The largest delay that is taken, 2^63-1.
 const LIMIT: u64 = 9223372036854775807;
 
 // Numbers of refusal.
 const NO_IMAGE: u64 = 11;
+
 const TOO_LONG: u64 = 12;
 
 // Whether the five offsets and the total are those of the counts.
@@ -269,15 +273,7 @@ fn sweep(
 }
 
 // Edge k is offered to the pairs of its source.
-fn edge(
-    plan: &[u8],
-    kind: &mut [u8],
-    value: &mut [u64],
-    ck: &[u8],
-    cv: &[u64],
-    n: usize,
-    k: usize,
-)
+fn edge(plan: &[u8], kind: &mut [u8], value: &mut [u64], ck: &[u8], cv: &[u64], n: usize, k: usize)
     requires { ⌜ (length (now kind) ≡ 1024) × (length (now value) ≡ 1024) × (length (now ck) ≡ 1024) × (length (now cv) ≡ 1024) × Routed (now plan) × (n ≡ members (now plan)) × (k < edges (now plan)) ⌝ }
     ensures { λ _. ⌜ Swept (now (kind .entry)) (now (value .entry)) (now (kind .exit)) (now (value .exit)) (edgeSource (now (plan .entry)) k) (λ (t : ℕ). plus (edgeDelay (now (plan .entry)) k) (rest (grid (now (ck .entry)) (now (cv .entry))) (edgeTarget (now (plan .entry)) k) t)) n ⌝ }
 {
@@ -288,15 +284,7 @@ fn edge(
 }
 
 // One step ahead of the claimed matrix, for every pair, in a matrix without paths.
-fn steps(
-    plan: &[u8],
-    kind: &mut [u8],
-    value: &mut [u64],
-    ck: &[u8],
-    cv: &[u64],
-    n: usize,
-    e: usize,
-)
+fn steps(plan: &[u8], kind: &mut [u8], value: &mut [u64], ck: &[u8], cv: &[u64], n: usize, e: usize)
     requires { ⌜ (length (now kind) ≡ 1024) × (length (now value) ≡ 1024) × (length (now ck) ≡ 1024) × (length (now cv) ≡ 1024) × Routed (now plan) × (n ≡ members (now plan)) × (e ≡ edges (now plan)) × Blank (now kind) (now value) ⌝ }
     ensures { λ _. ⌜ Covers (now (kind .exit)) (now (value .exit)) n (step (planIn (now (plan .entry)) .sources) (planIn (now (plan .entry)) .targets) (planIn (now (plan .entry)) .delays) (grid (now (ck .entry)) (now (cv .entry))) e) ⌝ }
 {
@@ -639,7 +627,14 @@ fn target_member(
 }
 
 // Whether the table of downstream rows is that of the matrix.
-fn target_table(plan: &[u8], place: usize, rows: usize, kind: &[u8], value: &[u64], n: usize) -> bool
+fn target_table(
+    plan: &[u8],
+    place: usize,
+    rows: usize,
+    kind: &[u8],
+    value: &[u64],
+    n: usize,
+) -> bool
     requires { ⌜ (length (now kind) ≡ 1024) × (length (now value) ≡ 1024) × Header (now plan) × (n ≡ members (now plan)) × (rows ≤ 1024) × (place + 4 * rows ≤ length (now plan)) ⌝ }
     ensures { λ r. ⌜ Tells r (Tabled (now (plan .entry)) targetRow place 4 rows (downstreamFirst (now (plan .entry))) (downstreamCount (now (plan .entry))) (λ (s : ℕ). passing (onward (grid (now (kind .entry)) (now (value .entry))) s) n) n) ⌝ }
 {
@@ -713,7 +708,15 @@ fn minima_right(plan: &[u8], kind: &[u8], value: &[u64], n: usize, e: usize) -> 
     }
     let transitives = rows::number(plan, 36);
     let downstreams = rows::number(plan, 40);
-    if !source_table(plan, transitives, rows::number(plan, 16), 20, kind, value, n) {
+    if !source_table(
+        plan,
+        transitives,
+        rows::number(plan, 16),
+        20,
+        kind,
+        value,
+        n,
+    ) {
         return false;
     }
     target_table(plan, downstreams, rows::number(plan, 20), kind, value, n)

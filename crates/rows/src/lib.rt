@@ -8,9 +8,13 @@ ghost use Rattle.rows.specs.Rows.{headerSize, memberSize, edgeSize, sour
 
 // The size of the header and of a row of each table.
 pub const HEADER: usize = 48;
+
 pub const MEMBER: usize = 40;
+
 pub const EDGE: usize = 24;
+
 pub const SOURCE: usize = 16;
+
 pub const TARGET: usize = 4;
 
 // The u32 at a place of the bytes.

@@ -45,7 +45,7 @@ positive-requires c κs = search needs
 
 returns : tie.Need-returns Inv-loop μ-loop
 unfolding grid
-returns c = 
+returns c =
     let l = c .before .before .before .before .before .loop in
     tells-false (λ all. c .before .positive .ensures .wrong (not-taken _ (c .if1 .taken)) (all (l .i) (omega arith)))
 
@@ -57,7 +57,7 @@ loop-less c = omega arith
 
 loop-again : tie.Need-loop-again Inv-loop μ-loop
 unfolding grid
-loop-again c = 
+loop-again c =
     let l = c .before .before .before .before .before .loop in
     (omega arith, below-more _ _ (l .inv .1) (c .before .positive .ensures .right (not-left _ (c .if1 .left))))
 

@@ -13,7 +13,7 @@ use Rattle.recognised.proofs.claim.Statement.{statement}
 use Rattle.recognised.proofs.claim.Tie as tie
 
 abbrev Inv-loop : tie.InvT-loop
-Inv-loop plan n kind₀ value₀ t₀ kind value t = 
+Inv-loop plan n kind₀ value₀ t₀ kind value t =
     (length kind ≡ 1024) × (length value ≡ 1024) × (t ≤ n) × ((x : ℕ) → x < t → Readable plan x) × Claimed plan kind value t
 
 abbrev μ-loop : tie.MeasureT-loop
@@ -32,7 +32,7 @@ same-length-2 : tie.Need-same-length-2 Inv-loop μ-loop
 same-length-2 c = let r = c .before .before .before .before .before .claim-member in omega (arith, r .kept .1 .1 .1 .1 .0)
 
 returns : tie.Need-returns Inv-loop μ-loop
-returns c = 
+returns c =
     let l = c .before .before .before .before .before .before .before .before .before .loop in
     (tells-false (λ all. c .before .before .before .before .before .claim-member .ensures .0 .wrong (not-taken _ (c .if1 .taken)) (all (l .t) (omega arith))), λ e. never (sym e))
 
@@ -43,7 +43,7 @@ loop-less : tie.Need-loop-less Inv-loop μ-loop
 loop-less c = omega arith
 
 loop-again : tie.Need-loop-again Inv-loop μ-loop
-loop-again c = 
+loop-again c =
     let l = c .before .before .before .before .before .before .before .before .before .loop in
     let r = c .before .before .before .before .before .claim-member in
     let s = c .before .before .before .before .before .before .before .before .before .before .before .before .before in (
@@ -61,7 +61,7 @@ same-length-4 : tie.Need-same-length-4 Inv-loop μ-loop
 same-length-4 c = omega arith
 
 returns-2 : tie.Need-returns-2 Inv-loop μ-loop
-returns-2 c = 
+returns-2 c =
     let l = c .before .loop in
     let s = c .before .before .before .before .before in
     let e : l .t ≡ s .args .n = omega arith in

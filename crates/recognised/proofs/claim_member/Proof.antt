@@ -36,11 +36,13 @@ same-length-2 : tie.Need-same-length-2
 same-length-2 c = search needs
 
 returns-3 : tie.Need-returns-3
-returns-3 c = 
-    (record {
-      right = λ e. readable-of (c .before .before .before .before .before .before .before .before .before .before .before .before .before .before .before .before .args .plan .now) (c .before .before .before .before .before .before .before .before .before .before .before .before .before .before .before .before .args .t) (c .before .before .before .before .before .before .before .before .before .before .before .before .number .result) (c .before .before .before .before .before .before .before .before .before .before .in-member .result) (c .before .before .before .before .before .before .before .before .before .in-member2 .result) (c .before .before .before .before .before .before .before .before .before .before .before .before .before .before .before .before .args .n) (omega arith) (c .before .before .before .before .before .before .before .before .before .before .in-member .ensures) (c .before .before .before .before .before .before .before .before .before .in-member2 .ensures) (c .before .before .before .before .before .before .before .before .before .before .before .before .before .before .before .before .pre .3) (omega arith) (c .before .before .before .before .claim-rows .ensures .0 .right e);
-      wrong = λ e R. c .before .before .before .before .claim-rows .ensures .0 .wrong e (names-of (c .before .before .before .before .before .before .before .before .before .before .before .before .before .before .before .before .args .plan .now) (c .before .before .before .before .before .before .before .before .before .before .before .before .before .before .before .before .args .t) (c .before .before .before .before .before .before .before .before .before .before .before .before .number .result) (c .before .before .before .before .before .before .before .before .before .before .in-member .result) (c .before .before .before .before .before .before .before .before .before .in-member2 .result) (c .before .before .before .before .before .before .before .before .before .before .before .before .before .before .before .before .args .n) (omega arith) (c .before .before .before .before .before .before .before .before .before .before .in-member .ensures) (c .before .before .before .before .before .before .before .before .before .in-member2 .ensures) (c .before .before .before .before .before .before .before .before .before .before .before .before .before .before .before .before .pre .3) R);
-    }, λ e. filled-of (c .before .before .before .before .before .before .before .before .before .before .before .before .before .before .before .before .args .plan .now) (c .before .before .before .before .before .before .before .before .before .before .before .before .before .before .before .before .args .t) (c .before .before .before .before .before .before .before .before .before .before .before .before .number .result) (c .before .before .before .before .before .before .before .before .before .before .in-member .result) (c .before .before .before .before .before .before .before .before .before .in-member2 .result) (c .before .before .before .before .before .before .before .before .before .before .before .before .before .before .before .before .args .n) (omega arith) (c .before .before .before .before .before .before .before .before .before .before .in-member .ensures) (c .before .before .before .before .before .before .before .before .before .in-member2 .ensures) (c .before .before .before .before .before .before .before .before .before .before .before .before .before .before .before .before .pre .3) _ _ _ _ (c .before .before .before .before .claim-rows .ensures .1 e))
+returns-3 c = (
+  record {
+    right = λ e. readable-of (c .before .before .before .before .before .before .before .before .before .before .before .before .before .before .before .before .args .plan .now) (c .before .before .before .before .before .before .before .before .before .before .before .before .before .before .before .before .args .t) (c .before .before .before .before .before .before .before .before .before .before .before .before .number .result) (c .before .before .before .before .before .before .before .before .before .before .in-member .result) (c .before .before .before .before .before .before .before .before .before .in-member2 .result) (c .before .before .before .before .before .before .before .before .before .before .before .before .before .before .before .before .args .n) (omega arith) (c .before .before .before .before .before .before .before .before .before .before .in-member .ensures) (c .before .before .before .before .before .before .before .before .before .in-member2 .ensures) (c .before .before .before .before .before .before .before .before .before .before .before .before .before .before .before .before .pre .3) (omega arith) (c .before .before .before .before .claim-rows .ensures .0 .right e);
+    wrong = λ e R. c .before .before .before .before .claim-rows .ensures .0 .wrong e (names-of (c .before .before .before .before .before .before .before .before .before .before .before .before .before .before .before .before .args .plan .now) (c .before .before .before .before .before .before .before .before .before .before .before .before .before .before .before .before .args .t) (c .before .before .before .before .before .before .before .before .before .before .before .before .number .result) (c .before .before .before .before .before .before .before .before .before .before .in-member .result) (c .before .before .before .before .before .before .before .before .before .in-member2 .result) (c .before .before .before .before .before .before .before .before .before .before .before .before .before .before .before .before .args .n) (omega arith) (c .before .before .before .before .before .before .before .before .before .before .in-member .ensures) (c .before .before .before .before .before .before .before .before .before .in-member2 .ensures) (c .before .before .before .before .before .before .before .before .before .before .before .before .before .before .before .before .pre .3) R);
+  },
+  λ e. filled-of (c .before .before .before .before .before .before .before .before .before .before .before .before .before .before .before .before .args .plan .now) (c .before .before .before .before .before .before .before .before .before .before .before .before .before .before .before .before .args .t) (c .before .before .before .before .before .before .before .before .before .before .before .before .number .result) (c .before .before .before .before .before .before .before .before .before .before .in-member .result) (c .before .before .before .before .before .before .before .before .before .in-member2 .result) (c .before .before .before .before .before .before .before .before .before .before .before .before .before .before .before .before .args .n) (omega arith) (c .before .before .before .before .before .before .before .before .before .before .in-member .ensures) (c .before .before .before .before .before .before .before .before .before .in-member2 .ensures) (c .before .before .before .before .before .before .before .before .before .before .before .before .before .before .before .before .pre .3) _ _ _ _ (c .before .before .before .before .claim-rows .ensures .1 e),
+)
 
 pub claim-member-spec : {M : Type 1} → statement M
 claim-member-spec =

@@ -15,7 +15,7 @@ use Rattle.recognised.proofs.claim_rows.Statement.{statement}
 use Rattle.recognised.proofs.claim_rows.Tie as tie
 
 abbrev Inv-loop : tie.InvT-loop
-Inv-loop plan place k c t n kind₀ value₀ q₀ kind value q = 
+Inv-loop plan place k c t n kind₀ value₀ q₀ kind value q =
     (length kind ≡ 1024) × (length value ≡ 1024) × (q ≤ c) × ((x : ℕ) → x < q → field 4 place 16 0 (k + x) plan < n)
     × Filled kind₀ value₀ kind value t (delayOf (λ (x : ℕ). field 4 place 16 0 x plan) (λ (x : ℕ). field 8 place 16 8 x plan) k q)
 
@@ -38,7 +38,7 @@ same-length-2 : tie.Need-same-length-2 Inv-loop μ-loop
 same-length-2 c = omega arith
 
 returns : tie.Need-returns Inv-loop μ-loop
-returns c = 
+returns c =
     let l = c .before .before .before .loop in
     (tells-false (λ all. absurd (omega (arith, all (l .q) (omega arith)))), λ e. never (sym e))
 
@@ -70,7 +70,7 @@ loop-less : tie.Need-loop-less Inv-loop μ-loop
 loop-less c = omega arith
 
 loop-again : tie.Need-loop-again Inv-loop μ-loop
-loop-again c = 
+loop-again c =
     let s = c .before .before .before .before .before .before .before .before in
     let l = c .before .before .before .before .loop in (
       simp length-set (omega arith),
@@ -87,7 +87,7 @@ same-length-4 : tie.Need-same-length-4 Inv-loop μ-loop
 same-length-4 c = omega arith
 
 returns-2 : tie.Need-returns-2 Inv-loop μ-loop
-returns-2 c = 
+returns-2 c =
     let l = c .before .loop in
     let e : c .before .before .before .before .before .args .c ≡ l .q = omega arith in
     (tells-true (λ x h. l .inv .3 x (omega arith)), λ y. rw e (l .inv .4))

@@ -13,7 +13,7 @@ use Rattle.recognised.proofs.direct_delays.Statement.{statement}
 use Rattle.recognised.proofs.direct_delays.Tie as tie
 
 abbrev Inv-loop : tie.InvT-loop
-Inv-loop plan kind₀ value₀ e k₀ kind value k = 
+Inv-loop plan kind₀ value₀ e k₀ kind value k =
     (length kind ≡ 1024) × (length value ≡ 1024) × (k ≤ e) × Covers kind value 32 (direct (planIn plan .sources) (planIn plan .targets) (planIn plan .delays) k)
 
 abbrev μ-loop : tie.MeasureT-loop
@@ -32,7 +32,7 @@ loop-less : tie.Need-loop-less Inv-loop μ-loop
 loop-less c = omega arith
 
 loop-again : tie.Need-loop-again Inv-loop μ-loop
-loop-again c = 
+loop-again c =
     let s = c .before .before .before .before .before .before .before .before .before .before .before .before in
     let l = c .before .before .before .before .before .before .before .before .loop in
     let r = c .before .before .before .before .direct-edge in (

@@ -18,19 +18,19 @@ edge-delay-requires : tie.Need-edge-delay-requires
 edge-delay-requires c κs = search needs
 
 mul-lower : tie.Need-mul-lower
-mul-lower c = 
+mul-lower c =
     let s = c .before .before .before .before .before .before .before .before in
     let R = s .pre .2 .edge (s .args .k) (s .pre .3) in
     omega (arith, R .from, R .to, s .pre .2 .header .few)
 
 add-lower : tie.Need-add-lower
-add-lower c = 
+add-lower c =
     let s = c .before .before .before .before .before .before .before .before in
     let R = s .pre .2 .edge (s .args .k) (s .pre .3) in
     omega (arith, R .from, R .to, s .pre .2 .header .few)
 
 lower-requires : tie.Need-lower-requires
-lower-requires c κs = 
+lower-requires c κs =
     let s = c .before .before .before .before .before .before .before .before in
     let R = s .pre .2 .edge (s .args .k) (s .pre .3) in
     omega (arith, R .from, R .to, s .pre .2 .header .few)
@@ -42,7 +42,7 @@ same-length-2 : tie.Need-same-length-2
 same-length-2 c = search needs
 
 returns : tie.Need-returns
-returns c = 
+returns c =
     let e : cell 0 (c .before .before .before .before .before .before .before .edge-delay .result) ≡ c .before .before .before .before .before .before .before .edge-delay .result = cell-at 0 (c .before .before .before .before .before .before .before .edge-delay .result) refl (omega arith) in
     rw (← c .before .before .before .before .before .before .before .before .before .edge-source .ensures, ← c .before .before .before .before .before .before .before .before .edge-target .ensures, ← c .before .before .before .before .before .before .before .edge-delay .ensures, ← e) (c .before .before .before .before .lower .ensures)
 

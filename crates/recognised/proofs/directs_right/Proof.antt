@@ -33,7 +33,7 @@ source-table-requires : tie.Need-source-table-requires
 source-table-requires c κs = let s = c .before .before .before .before .before .before .before .before .before .before in let H = s .pre .0 .header in (search needs, search needs, H, s .pre .1, search needs, omega (arith, H .few-directs), omega (arith, H .direct-place, H .whole))
 
 returns : tie.Need-returns
-returns c = 
+returns c =
     let s = c .before .before .before .before .before .before .before .before .before .before .before in
     let H = s .pre .0 .header in
     directs-told (s .args .plan .now) (s .args .n) (s .args .e) (s .pre .1) (s .pre .2) (omega (arith, H .few, s .pre .1)) _ _ (c .before .before .before .before .before .before .before .direct-delays .ensures) _ _ _

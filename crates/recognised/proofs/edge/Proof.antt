@@ -15,7 +15,7 @@ edge-delay-requires : tie.Need-edge-delay-requires
 edge-delay-requires c κs = search needs
 
 sweep-requires : tie.Need-sweep-requires
-sweep-requires c κs = 
+sweep-requires c κs =
     let s = c .before .before .before .before .before .before .before .before .before .before in
     let R = s .pre .4 .edge (s .args .k) (s .pre .6) in
     omega (arith, R .from, R .to, s .pre .4 .header .few)

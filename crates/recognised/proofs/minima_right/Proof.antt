@@ -30,11 +30,11 @@ source-table-requires : tie.Need-source-table-requires
 source-table-requires c κs = let s = c .before .before .before .before .before .before .before .before in let H = s .pre .2 .header in (search needs, search needs, H, s .pre .3, search needs, omega (arith, H .few-transitives), omega (arith, H .transitive-place, H .whole))
 
 returns-2 : tie.Need-returns-2
-returns-2 c = 
+returns-2 c =
     let s = c .before .before .before .before .before .before .before .before .before .before in
     let H = s .pre .2 .header in
     let told = tabled-place (s .args .plan .now) sourceRow 16 (transitiveFirst (s .args .plan .now)) (transitiveCount (s .args .plan .now)) (s .args .n) _ _ _ (transitivesAt (s .args .plan .now)) _ (transitives (s .args .plan .now))
-        (c .before .before .before .before .number .ensures ∙ H .transitive-place) (c .before .before .number3 .ensures) (c .before .source-table .ensures) in
+    (c .before .before .before .before .number .ensures ∙ H .transitive-place) (c .before .before .number3 .ensures) (c .before .source-table .ensures) in
     tells-false (λ X. told .wrong (not-taken _ (c .if2 .taken)) (X .transitive))
 
 number-requires-4 : tie.Need-number-requires-4
@@ -44,13 +44,13 @@ target-table-requires : tie.Need-target-table-requires
 target-table-requires c κs = let s = c .before .before .before .before .before .before .before .before .before .before .before in let H = s .pre .2 .header in (search needs, search needs, H, s .pre .3, omega (arith, H .few-downstreams), omega (arith, H .downstream-place, H .whole))
 
 returns-3 : tie.Need-returns-3
-returns-3 c = 
+returns-3 c =
     let s = c .before .before .before .before .before .before .before .before .before .before .before .before in
     let H = s .pre .2 .header in
     let first = tabled-place (s .args .plan .now) sourceRow 16 (transitiveFirst (s .args .plan .now)) (transitiveCount (s .args .plan .now)) (s .args .n) _ _ _ (transitivesAt (s .args .plan .now)) _ (transitives (s .args .plan .now))
-        (c .before .before .before .before .before .before .number .ensures ∙ H .transitive-place) (c .before .before .before .before .number3 .ensures) (c .before .before .before .source-table .ensures) in
+    (c .before .before .before .before .before .before .number .ensures ∙ H .transitive-place) (c .before .before .before .before .number3 .ensures) (c .before .before .before .source-table .ensures) in
     let second = tabled-place (s .args .plan .now) targetRow 4 (downstreamFirst (s .args .plan .now)) (downstreamCount (s .args .plan .now)) (s .args .n) _ _ _ (downstreamsAt (s .args .plan .now)) _ (downstreams (s .args .plan .now))
-        (c .before .before .before .before .before .number2 .ensures ∙ H .downstream-place) (c .before .number4 .ensures) (c .target-table .ensures) in
+    (c .before .before .before .before .before .number2 .ensures ∙ H .downstream-place) (c .before .number4 .ensures) (c .target-table .ensures) in
     tells-same (λ d. record { minimal = c .before .before .before .before .before .before .before .before .stands .ensures .right (not-left _ (c .before .before .before .before .before .before .before .if1 .left)); transitive = first .right (not-left _ (c .before .before .if2 .left)); downstream = d }) (λ X. X .downstream) second
 
 pub minima-right-spec : {M : Type 1} → statement M

@@ -9,7 +9,7 @@ use Rattle.recognised.proofs.positive.Statement.{statement}
 use Rattle.recognised.proofs.positive.Tie as tie
 
 returns : tie.Need-returns
-returns c = 
+returns c =
     let e = cell-cut (c .before .args .kind) (c .before .args .value) (omega arith) in
     record { right = λ t z. omega (arith, ltb-true); wrong = λ f P. P (omega (arith, ltb-false)) }
 

@@ -35,7 +35,7 @@ returns-3 : tie.Need-returns-3
 returns-3 c = sym (no-image (c .before .before .before .before .before .before .before .before .before .args .plan .now) (λ I. c .before .edges-right .ensures .wrong (not-taken _ (c .if3 .taken)) (image-edges (c .before .before .before .before .before .before .before .before .before .args .plan .now) _ _ (c .before .before .before .before .before .number .ensures) (c .before .before .before .before .number2 .ensures) I)))
 
 judge-requires : tie.Need-judge-requires
-judge-requires c κs = 
+judge-requires c κs =
     (record { header = (c .before .before .before .before .before .before .before .header .ensures .right (not-left _ (c .before .before .before .before .before .before .if1 .left))); edge = λ k l. c .before .edges-right .ensures .right (not-left _ (c .if3 .left)) k (omega (arith, c .before .before .before .before .number2 .ensures)) }, c .before .before .before .members-right .ensures .right (not-left _ (c .before .before .if2 .left)), c .before .before .before .before .before .number .ensures, c .before .before .before .before .number2 .ensures)
 
 returns-4 : tie.Need-returns-4

@@ -13,7 +13,7 @@ use Rattle.recognised.proofs.short_at.Statement.{statement}
 use Rattle.recognised.proofs.short_at.Tie as tie
 
 returns : tie.Need-returns
-returns c = 
+returns c =
     let e = cell-cut (c .before .args .kind) (c .before .args .value) (omega arith) in
     record { right = λ t l. omega (arith, leb-true); wrong = λ f P. let q : cell (c .before .args .kind) (c .before .args .value) ≤ limit = P (omega arith) in omega (arith, leb-false) }
 

@@ -31,7 +31,7 @@ source-rows-requires : tie.Need-source-rows-requires
 source-rows-requires c κs = omega arith
 
 returns-3 : tie.Need-returns-3
-returns-3 c = 
+returns-3 c =
     record {
       right = λ e. (rw (← c .before .before .in-member2 .ensures) (rowed-of (c .before .before .before .before .before .before .before .before .args .plan .now) (c .before .before .before .before .before .before .before .before .args .kind .now) (c .before .before .before .before .before .before .before .before .args .value .now) (c .before .before .before .before .before .before .before .before .args .place) (c .before .before .before .before .before .before .before .before .args .k) (c .before .before .before .before .before .before .before .before .args .t) (λ i. c .before .before .before .before .before .shared-slice-known3 .given i .fits) (c .before .before .before .before .before .before .before .before .args .n) (field 4 48 40 (c .before .before .before .before .before .before .before .before .args .offset) (c .before .before .before .before .before .before .before .before .args .t) (c .before .before .before .before .before .before .before .before .args .plan .now)) (c .before .before .in-member2 .result) (omega arith) (c .source-rows .ensures .right e)), omega arith);
       wrong = λ e P. c .source-rows .ensures .wrong e (whole-of (c .before .before .before .before .before .before .before .before .args .plan .now) (c .before .before .before .before .before .before .before .before .args .kind .now) (c .before .before .before .before .before .before .before .before .args .value .now) (c .before .before .before .before .before .before .before .before .args .place) (c .before .before .before .before .before .before .before .before .args .k) (c .before .before .before .before .before .before .before .before .args .t) (λ i. c .before .before .before .before .before .shared-slice-known3 .given i .fits) (c .before .before .before .before .before .before .before .before .args .n) (field 4 48 40 (c .before .before .before .before .before .before .before .before .args .offset) (c .before .before .before .before .before .before .before .before .args .t) (c .before .before .before .before .before .before .before .before .args .plan .now)) (c .before .before .in-member2 .result) (rw (c .before .before .in-member2 .ensures) (P .0)));

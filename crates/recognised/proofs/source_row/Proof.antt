@@ -13,7 +13,7 @@ in-source-requires : tie.Need-in-source-requires
 in-source-requires c κs = search needs
 
 returns : tie.Need-returns
-returns c = 
+returns c =
     let s = c .before .before .before in
     tells-false (λ S. let r = row-no (s .args .plan .now) (bytes-of (s .args .plan .now) (λ i. c .before .before .shared-slice-known .given i .fits)) (s .args .place) (s .args .k) (s .args .s) (s .args .d) (s .pre .0) (s .pre .1) (omega arith) S in omega arith)
 
@@ -21,7 +21,7 @@ in-source-requires-2 : tie.Need-in-source-requires-2
 in-source-requires-2 c κs = search needs
 
 returns-2 : tie.Need-returns-2
-returns-2 c = 
+returns-2 c =
     let s = c .before .before .before .before .before in
     tells-false (λ S. let r = row-no (s .args .plan .now) (bytes-of (s .args .plan .now) (λ i. c .before .before .before .before .shared-slice-known .given i .fits)) (s .args .place) (s .args .k) (s .args .s) (s .args .d) (s .pre .0) (s .pre .1) (omega arith) S in omega arith)
 
@@ -29,7 +29,7 @@ wide-in-source-requires : tie.Need-wide-in-source-requires
 wide-in-source-requires c κs = search needs
 
 returns-3 : tie.Need-returns-3
-returns-3 c = 
+returns-3 c =
     let s = c .before .before .before .before .before .before in
     let B = bytes-of (s .args .plan .now) (λ i. c .before .before .before .before .before .shared-slice-known .given i .fits) in
     record {

@@ -18,7 +18,7 @@ use Rattle.recognised.proofs.source_rows.Statement.{statement}
 use Rattle.recognised.proofs.source_rows.Tie as tie
 
 abbrev Inv-loop : tie.InvT-loop
-Inv-loop plan place k c kind value t n q₀ s₀ q s = 
+Inv-loop plan place k c kind value t n q₀ s₀ q s =
     (q ≤ c) × (s ≤ n) × Whole plan (place + 16 * k) (λ (x : ℕ). sourceRow (sourceOf (λ (y : ℕ). grid kind value y t) x)) (near (λ (y : ℕ). grid kind value y t)) s q
 
 abbrev μ-loop : tie.MeasureT-loop
@@ -37,7 +37,7 @@ shared-slice-read-if1 : tie.Need-shared-slice-read-if1 Inv-loop μ-loop
 shared-slice-read-if1 c = omega arith
 
 returns : tie.Need-returns Inv-loop μ-loop
-returns c = 
+returns c =
     let l = c .before .before .before .before .loop in
     tells-false (λ X. let r = sources-row (c .before .before .before .before .before .before .before .before .args .plan .now) (c .before .before .before .before .before .before .before .before .args .kind .now) (c .before .before .before .before .before .before .before .before .args .value .now) (c .before .before .before .before .before .before .before .before .args .place) (c .before .before .before .before .before .before .before .before .args .k) (c .before .before .before .before .before .before .before .before .args .t) (λ i. c .before .before .before .before .before .shared-slice-known3 .given i .fits) (l .s) (c .before .before .before .before .before .before .before .before .args .n) (l .q) (c .before .before .before .before .before .before .before .before .args .c) (omega arith) (omega arith) (l .inv .2) X in omega arith)
 
@@ -54,7 +54,7 @@ source-row-requires : tie.Need-source-row-requires Inv-loop μ-loop
 source-row-requires c κs = omega arith
 
 returns-2 : tie.Need-returns-2 Inv-loop μ-loop
-returns-2 c = 
+returns-2 c =
     let l = c .before .before .before .before .before .before .before .loop in
     tells-false (λ X. let r = sources-row (c .before .before .before .before .before .before .before .before .before .before .before .args .plan .now) (c .before .before .before .before .before .before .before .before .before .before .before .args .kind .now) (c .before .before .before .before .before .before .before .before .before .before .before .args .value .now) (c .before .before .before .before .before .before .before .before .before .before .before .args .place) (c .before .before .before .before .before .before .before .before .before .before .before .args .k) (c .before .before .before .before .before .before .before .before .before .before .before .args .t) (λ i. c .before .before .before .before .before .before .before .before .shared-slice-known3 .given i .fits) (l .s) (c .before .before .before .before .before .before .before .before .before .before .before .args .n) (l .q) (c .before .before .before .before .before .before .before .before .before .before .before .args .c) (omega arith) (c .before .before .before .before .if1 .taken) (l .inv .2) X in c .before .source-row .ensures .wrong (not-taken _ (c .if3 .taken)) (r .1))
 
@@ -68,7 +68,7 @@ loop-less : tie.Need-loop-less Inv-loop μ-loop
 loop-less c = omega arith
 
 loop-again : tie.Need-loop-again Inv-loop μ-loop
-loop-again c = 
+loop-again c =
     let l = c .before .before .before .loop in
     ⊎-elim
     (λ w. let e : c .if1 .q ≡ l .q + 1 = omega arith in (omega arith, omega arith, rw e (sources-held (c .before .before .before .before .before .before .before .args .plan .now) (c .before .before .before .before .before .before .before .args .kind .now) (c .before .before .before .before .before .before .before .args .value .now) (c .before .before .before .before .before .before .before .args .place) (c .before .before .before .before .before .before .before .args .k) (c .before .before .before .before .before .before .before .args .t) (λ i. c .before .before .before .before .shared-slice-known3 .given i .fits) (l .s) (l .q) (w .0 .taken) (w .3 .ensures .right (not-left _ (w .4 .left))) (l .inv .2))))
@@ -76,7 +76,7 @@ loop-again c =
     (c .if1 .came)
 
 returns-3 : tie.Need-returns-3 Inv-loop μ-loop
-returns-3 c = 
+returns-3 c =
     let l = c .before .loop in
     let e : c .before .before .before .before .before .args .n ≡ l .s = omega arith in
     record {

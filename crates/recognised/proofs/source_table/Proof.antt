@@ -15,7 +15,7 @@ use Rattle.recognised.proofs.source_table.Statement.{statement}
 use Rattle.recognised.proofs.source_table.Tie as tie
 
 abbrev Inv-loop : tie.InvT-loop
-Inv-loop plan place rows offset kind value n k₀ t₀ k t = 
+Inv-loop plan place rows offset kind value n k₀ t₀ k t =
     (t ≤ n) × (k ≤ rows) × Parts plan sourceRow place 16 rows (λ (t : ℕ). field 4 48 40 offset t plan) (λ (t : ℕ). field 4 48 40 (offset + 4) t plan) (λ (t : ℕ). sourced (λ (s : ℕ). grid kind value s t) n) n t k
 
 abbrev μ-loop : tie.MeasureT-loop
@@ -28,7 +28,7 @@ source-member-requires : tie.Need-source-member-requires Inv-loop μ-loop
 source-member-requires c κs = search needs
 
 returns : tie.Need-returns Inv-loop μ-loop
-returns c = 
+returns c =
     let l = c .before .before .before .loop in
     tells-false (λ T. c .before .source-member .ensures .wrong (not-taken _ (c .if1 .taken)) (parts-no (c .before .before .before .before .before .before .before .args .plan .now) sourceRow (c .before .before .before .before .before .before .before .args .place) 16 (c .before .before .before .before .before .before .before .args .rows) (λ (t : ℕ). field 4 48 40 (c .before .before .before .before .before .before .before .args .offset) t (c .before .before .before .before .before .before .before .args .plan .now)) (λ (t : ℕ). field 4 48 40 (c .before .before .before .before .before .before .before .args .offset + 4) t (c .before .before .before .before .before .before .before .args .plan .now)) (λ (t : ℕ). sourced (λ (s : ℕ). grid (c .before .before .before .before .before .before .before .args .kind .now) (c .before .before .before .before .before .before .before .args .value .now) s t) (c .before .before .before .before .before .before .before .args .n)) (c .before .before .before .before .before .before .before .args .n) (l .t) (l .k) (omega arith) (l .inv .2) T))
 
@@ -48,13 +48,13 @@ loop-less : tie.Need-loop-less Inv-loop μ-loop
 loop-less c = omega arith
 
 loop-again : tie.Need-loop-again Inv-loop μ-loop
-loop-again c = 
+loop-again c =
     let l = c .before .before .before .before .loop in
     let r = c .before .before .source-member .ensures .right (not-left _ (c .before .if1 .left)) in
     (omega arith, let z = r .1 in omega arith, parts-more (c .before .before .before .before .before .before .before .before .args .plan .now) sourceRow (c .before .before .before .before .before .before .before .before .args .place) 16 (c .before .before .before .before .before .before .before .before .args .rows) (λ (t : ℕ). field 4 48 40 (c .before .before .before .before .before .before .before .before .args .offset) t (c .before .before .before .before .before .before .before .before .args .plan .now)) (λ (t : ℕ). field 4 48 40 (c .before .before .before .before .before .before .before .before .args .offset + 4) t (c .before .before .before .before .before .before .before .before .args .plan .now)) (λ (t : ℕ). sourced (λ (s : ℕ). grid (c .before .before .before .before .before .before .before .before .args .kind .now) (c .before .before .before .before .before .before .before .before .args .value .now) s t) (c .before .before .before .before .before .before .before .before .args .n)) (c .before .before .before .before .before .before .before .before .args .n) (l .t) (l .k) _ (l .inv .2) (r .0) (c .in-member .ensures))
 
 returns-2 : tie.Need-returns-2 Inv-loop μ-loop
-returns-2 c = 
+returns-2 c =
     let l = c .before .loop in
     record {
       right = λ e. parts-yes (c .before .before .before .before .before .args .plan .now) sourceRow (c .before .before .before .before .before .args .place) 16 (c .before .before .before .before .before .args .rows) (λ (t : ℕ). field 4 48 40 (c .before .before .before .before .before .args .offset) t (c .before .before .before .before .before .args .plan .now)) (λ (t : ℕ). field 4 48 40 (c .before .before .before .before .before .args .offset + 4) t (c .before .before .before .before .before .args .plan .now)) (λ (t : ℕ). sourced (λ (s : ℕ). grid (c .before .before .before .before .before .args .kind .now) (c .before .before .before .before .before .args .value .now) s t) (c .before .before .before .before .before .args .n)) (c .before .before .before .before .before .args .n) (l .t) (l .k) (omega arith) (omega (arith, eqb-true)) (l .inv .2);

@@ -12,7 +12,7 @@ apart-requires : tie.Need-apart-requires
 apart-requires c κs = search needs
 
 returns : tie.Need-returns
-returns c = 
+returns c =
     let s = c .before .before .before .before .before in
     tells-false (refused (s .args .plan .now) (bytes-of (s .args .plan .now) (λ i. c .before .before .before .before .shared-slice-known .given i .fits)) (s .pre .2) (s .args .n) (s .args .e) (s .pre .3) (s .pre .4) (s .args .ck .now) (s .args .cv .now)
     (c .before .apart .ensures .wrong (not-taken _ (c .if1 .taken))))
@@ -24,7 +24,7 @@ slice-aggregate-steps-2 : tie.Need-slice-aggregate-steps-2
 slice-aggregate-steps-2 c = search needs
 
 steps-requires : tie.Need-steps-requires
-steps-requires c κs = 
+steps-requires c κs =
     let s = c .before .before .before .before .before .before .before in
     (search needs, search needs, search needs, search needs, s .pre .2, s .pre .3, s .pre .4, blank-fresh _)
 
@@ -38,7 +38,7 @@ fair-rows-requires : tie.Need-fair-rows-requires
 fair-rows-requires c κs = search needs
 
 returns-2 : tie.Need-returns-2
-returns-2 c = 
+returns-2 c =
     let s = c .before .before .before .before .before .before .before .before .before .before .before .before .before in
     answered (s .args .plan .now) (bytes-of (s .args .plan .now) (λ i. c .before .before .before .before .before .before .before .before .before .before .before .before .shared-slice-known .given i .fits)) (s .pre .2) (s .args .n) (s .args .e) (s .pre .3) (s .pre .4) (s .args .ck .now) (s .args .cv .now) _ _ _
     (c .before .before .before .before .before .before .before .before .before .apart .ensures .right (not-left _ (c .before .before .before .before .before .before .before .before .if1 .left))) (c .before .before .before .before .before .steps .ensures) (c .fair-rows .ensures)

@@ -14,7 +14,7 @@ use Rattle.recognised.proofs.steps.Statement.{statement}
 use Rattle.recognised.proofs.steps.Tie as tie
 
 abbrev Inv-loop : tie.InvT-loop
-Inv-loop plan kind₀ value₀ ck cv n e k₀ kind value k = 
+Inv-loop plan kind₀ value₀ ck cv n e k₀ kind value k =
     (length kind ≡ 1024) × (length value ≡ 1024) × (k ≤ e) × Covers kind value n (step (planIn plan .sources) (planIn plan .targets) (planIn plan .delays) (grid ck cv) k)
 
 abbrev μ-loop : tie.MeasureT-loop
@@ -33,7 +33,7 @@ loop-less : tie.Need-loop-less Inv-loop μ-loop
 loop-less c = omega arith
 
 loop-again : tie.Need-loop-again Inv-loop μ-loop
-loop-again c = 
+loop-again c =
     let s = c .before .before .before .before .before .before .before .before .before .before .before .before .before .before in
     let l = c .before .before .before .before .before .before .before .before .loop in
     let r = c .before .before .before .before .edge in (

@@ -29,7 +29,7 @@ target-rows-requires : tie.Need-target-rows-requires
 target-rows-requires c κs = omega arith
 
 returns-3 : tie.Need-returns-3
-returns-3 c = 
+returns-3 c =
     record {
       right = λ e. (rw (← c .before .before .in-member2 .ensures) (rowed-on (c .before .before .before .before .before .before .before .before .args .plan .now) (c .before .before .before .before .before .before .before .before .args .place) (c .before .before .before .before .before .before .before .before .args .k) (onward (grid (c .before .before .before .before .before .before .before .before .args .kind .now) (c .before .before .before .before .before .before .before .before .args .value .now)) (c .before .before .before .before .before .before .before .before .args .s)) (c .before .before .before .before .before .before .before .before .args .n) (downstreamFirst (c .before .before .before .before .before .before .before .before .args .plan .now) (c .before .before .before .before .before .before .before .before .args .s)) (c .before .before .in-member2 .result) (omega arith) (c .target-rows .ensures .right e)), omega arith);
       wrong = λ e P. c .target-rows .ensures .wrong e (whole-on (c .before .before .before .before .before .before .before .before .args .plan .now) (c .before .before .before .before .before .before .before .before .args .place) (c .before .before .before .before .before .before .before .before .args .k) (onward (grid (c .before .before .before .before .before .before .before .before .args .kind .now) (c .before .before .before .before .before .before .before .before .args .value .now)) (c .before .before .before .before .before .before .before .before .args .s)) (c .before .before .before .before .before .before .before .before .args .n) (downstreamFirst (c .before .before .before .before .before .before .before .before .args .plan .now) (c .before .before .before .before .before .before .before .before .args .s)) (c .before .before .in-member2 .result) (rw (c .before .before .in-member2 .ensures) (P .0)));

@@ -12,7 +12,7 @@ in-target-requires : tie.Need-in-target-requires
 in-target-requires c κs = search needs
 
 returns : tie.Need-returns
-returns c = 
+returns c =
     let s = c .before .before in
     let B = bytes-of (s .args .plan .now) (λ i. c .before .shared-slice-known .given i .fits) in
     record {

@@ -18,7 +18,7 @@ use Rattle.recognised.proofs.target_rows.Statement.{statement}
 use Rattle.recognised.proofs.target_rows.Tie as tie
 
 abbrev Inv-loop : tie.InvT-loop
-Inv-loop plan place k c kind value s n q₀ t₀ q t = 
+Inv-loop plan place k c kind value s n q₀ t₀ q t =
     (q ≤ c) × (t ≤ n) × Whole plan (place + 4 * k) targetRow (onward (grid kind value) s) t q
 
 abbrev μ-loop : tie.MeasureT-loop
@@ -31,7 +31,7 @@ leads-requires : tie.Need-leads-requires Inv-loop μ-loop
 leads-requires c κs = omega arith
 
 returns : tie.Need-returns Inv-loop μ-loop
-returns c = 
+returns c =
     let l = c .before .before .before .before .loop in
     tells-false (λ X. let r = targets-row (c .before .before .before .before .before .before .before .before .args .plan .now) (c .before .before .before .before .before .before .before .before .args .place) (c .before .before .before .before .before .before .before .before .args .k) (onward (grid (c .before .before .before .before .before .before .before .before .args .kind .now) (c .before .before .before .before .before .before .before .before .args .value .now)) (c .before .before .before .before .before .before .before .before .args .s)) (l .t) (c .before .before .before .before .before .before .before .before .args .n) (l .q) (c .before .before .before .before .before .before .before .before .args .c) (omega arith) (sym (c .before .before .leads .ensures) ∙ c .before .if1 .taken) (l .inv .2) X in omega arith)
 
@@ -42,7 +42,7 @@ target-row-requires : tie.Need-target-row-requires Inv-loop μ-loop
 target-row-requires c κs = omega arith
 
 returns-2 : tie.Need-returns-2 Inv-loop μ-loop
-returns-2 c = 
+returns-2 c =
     let l = c .before .before .before .before .before .before .loop in
     tells-false (λ X. let r = targets-row (c .before .before .before .before .before .before .before .before .before .before .args .plan .now) (c .before .before .before .before .before .before .before .before .before .before .args .place) (c .before .before .before .before .before .before .before .before .before .before .args .k) (onward (grid (c .before .before .before .before .before .before .before .before .before .before .args .kind .now) (c .before .before .before .before .before .before .before .before .before .before .args .value .now)) (c .before .before .before .before .before .before .before .before .before .before .args .s)) (l .t) (c .before .before .before .before .before .before .before .before .before .before .args .n) (l .q) (c .before .before .before .before .before .before .before .before .before .before .args .c) (omega arith) (sym (c .before .before .before .before .leads .ensures) ∙ c .before .before .before .if1 .taken) (l .inv .2) X in c .before .target-row .ensures .wrong (not-taken _ (c .if3 .taken)) (r .1))
 
@@ -56,7 +56,7 @@ loop-less : tie.Need-loop-less Inv-loop μ-loop
 loop-less c = omega arith
 
 loop-again : tie.Need-loop-again Inv-loop μ-loop
-loop-again c = 
+loop-again c =
     let l = c .before .before .before .loop in
     ⊎-elim
     (λ w. let e : c .if1 .q ≡ l .q + 1 = omega arith in (omega arith, omega arith, rw e (targets-held (c .before .before .before .before .before .before .before .args .plan .now) (c .before .before .before .before .before .before .before .args .place) (c .before .before .before .before .before .before .before .args .k) (onward (grid (c .before .before .before .before .before .before .before .args .kind .now) (c .before .before .before .before .before .before .before .args .value .now)) (c .before .before .before .before .before .before .before .args .s)) (l .t) (l .q) (sym (c .before .leads .ensures) ∙ w .0 .taken) (w .2 .ensures .right (not-left _ (w .3 .left))) (l .inv .2))))
@@ -64,7 +64,7 @@ loop-again c =
     (c .if1 .came)
 
 returns-3 : tie.Need-returns-3 Inv-loop μ-loop
-returns-3 c = 
+returns-3 c =
     let l = c .before .loop in
     let e : c .before .before .before .before .before .args .n ≡ l .t = omega arith in
     record {

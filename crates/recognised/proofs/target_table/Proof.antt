@@ -15,7 +15,7 @@ use Rattle.recognised.proofs.target_table.Statement.{statement}
 use Rattle.recognised.proofs.target_table.Tie as tie
 
 abbrev Inv-loop : tie.InvT-loop
-Inv-loop plan place rows kind value n k₀ s₀ k s = 
+Inv-loop plan place rows kind value n k₀ s₀ k s =
     (s ≤ n) × (k ≤ rows) × Parts plan targetRow place 4 rows (downstreamFirst plan) (downstreamCount plan) (λ (s : ℕ). passing (onward (grid kind value) s) n) n s k
 
 abbrev μ-loop : tie.MeasureT-loop
@@ -28,7 +28,7 @@ target-member-requires : tie.Need-target-member-requires Inv-loop μ-loop
 target-member-requires c κs = search needs
 
 returns : tie.Need-returns Inv-loop μ-loop
-returns c = 
+returns c =
     let l = c .before .before .before .loop in
     tells-false (λ T. c .before .target-member .ensures .wrong (not-taken _ (c .if1 .taken)) (parts-no (c .before .before .before .before .before .before .before .args .plan .now) targetRow (c .before .before .before .before .before .before .before .args .place) 4 (c .before .before .before .before .before .before .before .args .rows) (downstreamFirst (c .before .before .before .before .before .before .before .args .plan .now)) (downstreamCount (c .before .before .before .before .before .before .before .args .plan .now)) (λ (s : ℕ). passing (onward (grid (c .before .before .before .before .before .before .before .args .kind .now) (c .before .before .before .before .before .before .before .args .value .now)) s) (c .before .before .before .before .before .before .before .args .n)) (c .before .before .before .before .before .before .before .args .n) (l .s) (l .k) (omega arith) (l .inv .2) T))
 
@@ -45,13 +45,13 @@ loop-less : tie.Need-loop-less Inv-loop μ-loop
 loop-less c = omega arith
 
 loop-again : tie.Need-loop-again Inv-loop μ-loop
-loop-again c = 
+loop-again c =
     let l = c .before .before .before .before .loop in
     let r = c .before .before .target-member .ensures .right (not-left _ (c .before .if1 .left)) in
     (omega arith, let z = r .1 in omega arith, parts-more (c .before .before .before .before .before .before .before .before .args .plan .now) targetRow (c .before .before .before .before .before .before .before .before .args .place) 4 (c .before .before .before .before .before .before .before .before .args .rows) (downstreamFirst (c .before .before .before .before .before .before .before .before .args .plan .now)) (downstreamCount (c .before .before .before .before .before .before .before .before .args .plan .now)) (λ (s : ℕ). passing (onward (grid (c .before .before .before .before .before .before .before .before .args .kind .now) (c .before .before .before .before .before .before .before .before .args .value .now)) s) (c .before .before .before .before .before .before .before .before .args .n)) (c .before .before .before .before .before .before .before .before .args .n) (l .s) (l .k) _ (l .inv .2) (r .0) (c .in-member .ensures))
 
 returns-2 : tie.Need-returns-2 Inv-loop μ-loop
-returns-2 c = 
+returns-2 c =
     let l = c .before .loop in
     record {
       right = λ e. parts-yes (c .before .before .before .before .before .args .plan .now) targetRow (c .before .before .before .before .before .args .place) 4 (c .before .before .before .before .before .args .rows) (downstreamFirst (c .before .before .before .before .before .args .plan .now)) (downstreamCount (c .before .before .before .before .before .args .plan .now)) (λ (s : ℕ). passing (onward (grid (c .before .before .before .before .before .args .kind .now) (c .before .before .before .before .before .args .value .now)) s) (c .before .before .before .before .before .args .n)) (c .before .before .before .before .before .args .n) (l .s) (l .k) (omega arith) (omega (arith, eqb-true)) (l .inv .2);

@@ -1,0 +1,5 @@
+pub mod Tests
+pub mod Searches
+pub mod Ties
+pub mod Changes
+pub mod Effects

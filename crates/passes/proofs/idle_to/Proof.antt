@@ -1,0 +1,54 @@
+use Rattle.passes.specs.Pages.{idleTo}
+use Rattle.basis.specs.Choice.{chosen, passed}
+use mathlib.Core.Path.{_≡_, refl, sym, ap, _∙_}
+use borrow.Author.Needs.{needs}
+use Rattle.passes.proofs.idle_to.Statement.{statement}
+use Rattle.passes.proofs.idle_to.Tie as tie
+use Rattle.passes.proofs.idle_to.Reads as reads
+use Rattle.passes.proofs.idle_to.Lts as lts
+use Rattle.passes.proofs.tell.Reads as tell-reads
+use Rattle.records.proofs.idle_due.Reads as idle-due-reads
+use Rattle.records.proofs.rested.Reads as rested-reads
+use Rattle.records.proofs.revision.Reads as revision-reads
+
+-- src/lib.rt:67:8
+idle-due-requires : tie.Need-idle-due-requires
+idle-due-requires c κs = search needs
+
+-- src/lib.rt:69:13
+revision-requires : tie.Need-revision-requires
+revision-requires c κs = search needs
+
+-- src/lib.rt:70:13
+rested-requires : tie.Need-rested-requires
+rested-requires c κs = search needs
+
+-- src/lib.rt:71:9
+tell-requires : tie.Need-tell-requires
+tell-requires c κs = search needs
+
+-- src/lib.rt:71:9
+same-length : tie.Need-same-length
+same-length c = search needs
+
+-- src/lib.rt:71:9
+returns : tie.Need-returns
+unfolding idleTo
+returns c = chosen _ _ _ _ (sym (c .before .before .before .before .before .before .before .idle-due .ensures) ∙ c .before .before .before .before .before .before .if1 .taken) (rw (c .before .before .before .before .rested .ensures, c .before .before .before .before .before .revision .ensures) at (c .before .before .tell .ensures))
+
+-- src/lib.rt:63:1
+returns-2 : tie.Need-returns-2
+unfolding idleTo
+returns-2 c = passed _ _ _ _ (sym (c .before .idle-due .ensures) ∙ c .if1 .left) refl
+
+pub idle-to-spec : {M : Type 1} → statement M
+idle-to-spec =
+    tie.close
+    (tie.spec
+    idle-due-requires
+    revision-requires
+    rested-requires
+    tell-requires
+    same-length
+    returns
+    returns-2)

@@ -1,0 +1,357 @@
+// The passes over members that end a step: grants, Idle, bounds; and what goes to all.
+ghost use mathlib.Core.Path.{_≡_};
+ghost use Prim.Native.Nat.{_+_, _*_, _<_, _≤_};
+ghost use lib.ListN.{length};
+ghost use Rattle.basis.specs.Choice.{both};
+ghost use Rattle.states.specs.Steps.{every};
+ghost use Rattle.rows.specs.Rows.{Laid, members, downstreams, downstreamFirst, downstreamCount};
+ghost use Rattle.rows.specs.Loops.{overRows, overAll};
+ghost use Rattle.members.specs.Rules.{Mild, AllLow};
+ghost use Rattle.passes.specs.Pages.{on, posting, telling, grantTo, grantAt, grantBy, grantsIn, settledIn, followIn, putting, Ready, resting, restAt, joinedAt, stoppedAt, idleTo, idleAt, boundTo, boundAt, startAt, failAt};
+use states::Delivery;
+use states::MemberState;
+use states::State;
+use tags::Tag;
+
+// A step so far: the state, and how many deliveries are sent.
+pub struct Progress {
+    pub state: State,
+    pub sent: usize,
+}
+
+// One delivery more.
+pub fn post(p: Progress, out: &mut [u64], d: Delivery) -> Progress
+    requires { ⌜ 7 * p .sent + 7 ≤ length (now out) ⌝ }
+    ensures { λ r. ⌜ on r (now (out .exit)) ≡ posting (on p (now (out .entry))) d ⌝ }
+{
+    let k = p.sent;
+    requests::send(out, k, d);
+    let mut q = p;
+    q.sent = k + 1;
+    q
+}
+
+// Member i's record replaced, and one delivery more.
+pub fn tell(p: Progress, out: &mut [u64], i: usize, m: MemberState, d: Delivery) -> Progress
+    requires { ⌜ (i < 32) × (7 * p .sent + 7 ≤ length (now out)) ⌝ }
+    ensures { λ r. ⌜ on r (now (out .exit)) ≡ telling (on p (now (out .entry))) i m d ⌝ }
+{
+    let k = p.sent;
+    requests::send(out, k, d);
+    let mut state = p.state;
+    state.members[i] = m;
+    Progress {
+        state: state,
+        sent: k + 1,
+    }
+}
+
+// The grant of a horizon to member j, if it is due.
+pub fn grant_to(p: Progress, out: &mut [u64], j: usize, m: MemberState, h: Tag) -> Progress
+    requires { ⌜ (j < 32) × (7 * p .sent + 7 ≤ length (now out)) ⌝ }
+    ensures { λ r. ⌜ on r (now (out .exit)) ≡ grantTo (on p (now (out .entry))) j m h ⌝ }
+{
+    if records::is_due(m, h) {
+        let publication = m.publication;
+        let revision = records::revision(publication);
+        let next = records::granted(m, revision, h);
+        return tell(p, out, j, next, Delivery::Grant(j as u64, revision, h));
+    }
+    p
+}
+
+// Idle to member j, if it is due.
+pub fn idle_to(p: Progress, out: &mut [u64], j: usize, m: MemberState) -> Progress
+    requires { ⌜ (j < 32) × (7 * p .sent + 7 ≤ length (now out)) ⌝ }
+    ensures { λ r. ⌜ on r (now (out .exit)) ≡ idleTo (on p (now (out .entry))) j m ⌝ }
+{
+    if records::idle_due(m) {
+        let publication = m.publication;
+        let revision = records::revision(publication);
+        let next = records::rested(m, revision);
+        return tell(p, out, j, next, Delivery::Idle(j as u64, revision));
+    }
+    p
+}
+
+// A bound to member j, if it is due.
+pub fn bound_to(p: Progress, out: &mut [u64], j: usize, m: MemberState, t: Tag) -> Progress
+    requires { ⌜ (j < 32) × (7 * p .sent + 7 ≤ length (now out)) ⌝ }
+    ensures { λ r. ⌜ on r (now (out .exit)) ≡ boundTo (on p (now (out .entry))) j m t ⌝ }
+{
+    if records::bound_due(m, t) {
+        let next = records::bounded(m, t);
+        return tell(p, out, j, next, Delivery::Suppress(j as u64, t));
+    }
+    p
+}
+
+// The grant to member j, if it is due: `earliest` and `completed` are the tags of all members.
+pub fn grant_one(
+    plan: &[u8],
+    earliest: [Tag; 32],
+    completed: [Tag; 32],
+    p: Progress,
+    out: &mut [u64],
+    j: usize,
+) -> Progress
+    requires { ⌜ Laid (now plan) × Mild (now plan) × AllLow earliest × AllLow completed × (j < members (now plan)) × (7 * p .sent + 7 ≤ length (now out)) ⌝ }
+    ensures { λ r. ⌜ on r (now (out .exit)) ≡ grantAt (now (plan .entry)) earliest completed (on p (now (out .entry))) j ⌝ }
+{
+    let state = p.state;
+    let m = state.members[j];
+    let granted = m.granted;
+    let h = members::horizon(plan, earliest, completed, members::or_never(granted), j);
+    grant_to(p, out, j, m, h)
+}
+
+// The grant to the member that downstream row k names.
+pub fn grant_by(
+    plan: &[u8],
+    earliest: [Tag; 32],
+    completed: [Tag; 32],
+    p: Progress,
+    out: &mut [u64],
+    k: usize,
+) -> Progress
+    requires { ⌜ Laid (now plan) × Mild (now plan) × AllLow earliest × AllLow completed × (k < downstreams (now plan)) × (7 * p .sent + 7 ≤ length (now out)) ⌝ }
+    ensures { λ r. ⌜ on r (now (out .exit)) ≡ grantBy (now (plan .entry)) earliest completed (on p (now (out .entry))) k ⌝ }
+{
+    let j = rows::downstream(plan, k);
+    grant_one(plan, earliest, completed, p, out, j)
+}
+
+// The grants to the members downstream of i, in order.
+pub fn grant_below(
+    plan: &[u8],
+    earliest: [Tag; 32],
+    completed: [Tag; 32],
+    p: Progress,
+    out: &mut [u64],
+    i: usize,
+) -> Progress
+    requires { ⌜ Laid (now plan) × Mild (now plan) × AllLow earliest × AllLow completed × (i < members (now plan)) × (7 * (p .sent + downstreamCount (now plan) i) ≤ length (now out)) ⌝ }
+    ensures { λ r. ⌜ on r (now (out .exit)) ≡ overRows (grantBy (now (plan .entry)) earliest completed) (downstreamFirst (now (plan .entry)) i) (downstreamCount (now (plan .entry)) i) (on p (now (out .entry))) ⌝ }
+{
+    let first = rows::downstream_first(plan, i);
+    let count = rows::downstream_count(plan, i);
+    let mut q = p;
+    let mut c = 0;
+    while c < count {
+        q = grant_by(plan, earliest, completed, q, out, first + c);
+        c += 1;
+    }
+    q
+}
+
+// Idle to member j, if it is due.
+pub fn idle_one(p: Progress, out: &mut [u64], j: usize) -> Progress
+    requires { ⌜ (j < 32) × (7 * p .sent + 7 ≤ length (now out)) ⌝ }
+    ensures { λ r. ⌜ on r (now (out .exit)) ≡ idleAt (on p (now (out .entry))) j ⌝ }
+{
+    let state = p.state;
+    let m = state.members[j];
+    idle_to(p, out, j, m)
+}
+
+// Idle to each of n members to whom it is due, ascending.
+pub fn idle_all(p: Progress, out: &mut [u64], n: usize) -> Progress
+    requires { ⌜ (n ≤ 32) × (7 * (p .sent + n) ≤ length (now out)) ⌝ }
+    ensures { λ r. ⌜ on r (now (out .exit)) ≡ overAll idleAt n (on p (now (out .entry))) ⌝ }
+{
+    let mut q = p;
+    let mut j = 0;
+    while j < n {
+        q = idle_one(q, out, j);
+        j += 1;
+    }
+    q
+}
+
+// A bound to member j, if it is due.
+pub fn bound_one(bounds: [Tag; 32], p: Progress, out: &mut [u64], j: usize) -> Progress
+    requires { ⌜ (j < 32) × (7 * p .sent + 7 ≤ length (now out)) ⌝ }
+    ensures { λ r. ⌜ on r (now (out .exit)) ≡ boundAt bounds (on p (now (out .entry))) j ⌝ }
+{
+    let state = p.state;
+    let m = state.members[j];
+    let t = bounds[j];
+    bound_to(p, out, j, m, t)
+}
+
+// A bound to each of n members to whom it is due, ascending.
+pub fn bound_all(bounds: [Tag; 32], p: Progress, out: &mut [u64], n: usize) -> Progress
+    requires { ⌜ (n ≤ 32) × (7 * (p .sent + n) ≤ length (now out)) ⌝ }
+    ensures { λ r. ⌜ on r (now (out .exit)) ≡ overAll (boundAt bounds) n (on p (now (out .entry))) ⌝ }
+{
+    let mut q = p;
+    let mut j = 0;
+    while j < n {
+        q = bound_one(bounds, q, out, j);
+        j += 1;
+    }
+    q
+}
+
+// Started to member k.
+pub fn start_one(p: Progress, out: &mut [u64], k: usize) -> Progress
+    requires { ⌜ 7 * p .sent + 7 ≤ length (now out) ⌝ }
+    ensures { λ r. ⌜ on r (now (out .exit)) ≡ startAt (on p (now (out .entry))) k ⌝ }
+{
+    post(p, out, Delivery::Started(k as u64))
+}
+
+// Started to n members, ascending.
+pub fn start_all(p: Progress, out: &mut [u64], n: usize) -> Progress
+    requires { ⌜ (n ≤ 32) × (7 * (p .sent + n) ≤ length (now out)) ⌝ }
+    ensures { λ r. ⌜ on r (now (out .exit)) ≡ overAll startAt n (on p (now (out .entry))) ⌝ }
+{
+    let mut q = p;
+    let mut k = 0;
+    while k < n {
+        q = start_one(q, out, k);
+        k += 1;
+    }
+    q
+}
+
+// Failed to member k.
+pub fn fail_one(p: Progress, out: &mut [u64], cause: u64, code: u64, k: usize) -> Progress
+    requires { ⌜ 7 * p .sent + 7 ≤ length (now out) ⌝ }
+    ensures { λ r. ⌜ on r (now (out .exit)) ≡ failAt cause code (on p (now (out .entry))) k ⌝ }
+{
+    post(p, out, Delivery::Failed(k as u64, cause, code))
+}
+
+// Failed to n members, ascending.
+pub fn fail_all(p: Progress, out: &mut [u64], cause: u64, code: u64, n: usize) -> Progress
+    requires { ⌜ (n ≤ 32) × (7 * (p .sent + n) ≤ length (now out)) ⌝ }
+    ensures { λ r. ⌜ on r (now (out .exit)) ≡ overAll (failAt cause code) n (on p (now (out .entry))) ⌝ }
+{
+    let mut q = p;
+    let mut k = 0;
+    while k < n {
+        q = fail_one(q, out, cause, code, k);
+        k += 1;
+    }
+    q
+}
+
+// Whether both hold.
+fn both_hold(a: bool, b: bool) -> bool
+    ensures { λ r. ⌜ r ≡ both a b ⌝ }
+{
+    if a { b } else { false }
+}
+
+// Whether a member has no event, confirmed that revision and holds no tag.
+pub fn rests(m: MemberState) -> bool
+    ensures { λ r. ⌜ r ≡ resting m ⌝ }
+{
+    let publication = m.publication;
+    let asked = m.asked;
+    if records::is_confirmed(publication, asked) {
+        return m.held == 0;
+    }
+    false
+}
+
+// Whether each of the first n members is at rest.
+pub fn all_rest(s: State, n: usize) -> bool
+    requires { ⌜ n ≤ 32 ⌝ }
+    ensures { λ r. ⌜ r ≡ every (restAt s) n ⌝ }
+{
+    let mut all = true;
+    let mut k = 0;
+    while k < n {
+        let m = s.members[k];
+        all = both_hold(all, rests(m));
+        k += 1;
+    }
+    all
+}
+
+// Whether each of the first n members has joined.
+pub fn all_joined(s: State, n: usize) -> bool
+    requires { ⌜ n ≤ 32 ⌝ }
+    ensures { λ r. ⌜ r ≡ every (joinedAt s) n ⌝ }
+{
+    let mut all = true;
+    let mut k = 0;
+    while k < n {
+        let m = s.members[k];
+        all = both_hold(all, m.joined);
+        k += 1;
+    }
+    all
+}
+
+// Whether each of the first n members has stopped.
+pub fn all_stopped(s: State, n: usize) -> bool
+    requires { ⌜ n ≤ 32 ⌝ }
+    ensures { λ r. ⌜ r ≡ every (stoppedAt s) n ⌝ }
+{
+    let mut all = true;
+    let mut k = 0;
+    while k < n {
+        let m = s.members[k];
+        all = both_hold(all, m.stopped);
+        k += 1;
+    }
+    all
+}
+
+// The grants that a request of member i brings: to it, then to the members downstream of it.
+pub fn grants(
+    plan: &[u8],
+    earliest: [Tag; 32],
+    completed: [Tag; 32],
+    p: Progress,
+    out: &mut [u64],
+    i: usize,
+) -> Progress
+    requires { ⌜ Laid (now plan) × Mild (now plan) × AllLow earliest × AllLow completed × (i < members (now plan)) × (7 * (p .sent + 1 + downstreamCount (now plan) i) ≤ length (now out)) ⌝ }
+    ensures { λ r. ⌜ on r (now (out .exit)) ≡ grantsIn (now (plan .entry)) earliest completed (on p (now (out .entry))) i ⌝ }
+{
+    let q = grant_one(plan, earliest, completed, p, out, i);
+    grant_below(plan, earliest, completed, q, out, i)
+}
+
+// Idle where all n members are at rest, else the bounds.
+pub fn settle(bounds: [Tag; 32], p: Progress, out: &mut [u64], n: usize) -> Progress
+    requires { ⌜ (n ≤ 32) × (7 * (p .sent + n) ≤ length (now out)) ⌝ }
+    ensures { λ r. ⌜ on r (now (out .exit)) ≡ settledIn bounds n (on p (now (out .entry))) ⌝ }
+{
+    let state = p.state;
+    if all_rest(state, n) {
+        return idle_all(p, out, n);
+    }
+    bound_all(bounds, p, out, n)
+}
+
+// What follows a request of member i: grants, then Idle, then bounds.
+pub fn follow(plan: &[u8], p: Progress, slab: &[u64], out: &mut [u64], i: usize) -> Progress
+    requires { ⌜ Laid (now plan) × Mild (now plan) × (i < members (now plan)) × (downstreamCount (now plan) i < members (now plan)) × Ready (p .state) (now slab) (members (now plan)) × (7 * (p .sent + members (now plan) + members (now plan)) ≤ length (now out)) ⌝ }
+    ensures { λ r. ⌜ on r (now (out .exit)) ≡ followIn (now (plan .entry)) (now (slab .entry)) (on p (now (out .entry))) i ⌝ }
+{
+    let n = rows::members(plan);
+    let state = p.state;
+    let earliest = members::earliest_all(state, slab, n);
+    let completed = members::completed_all(state, n);
+    let bounds = members::bounds_all(plan, earliest);
+    let q = grants(plan, earliest, completed, p, out, i);
+    settle(bounds, q, out, n)
+}
+
+// Member i's record replaced.
+pub fn put(p: Progress, i: usize, m: MemberState) -> Progress
+    requires { ⌜ i < 32 ⌝ }
+    ensures { λ r. ⌜ r ≡ putting p i m ⌝ }
+{
+    let mut state = p.state;
+    state.members[i] = m;
+    Progress {
+        state: state,
+        sent: p.sent,
+    }
+}

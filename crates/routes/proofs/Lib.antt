@@ -1,0 +1,10 @@
+pub mod Every
+pub mod Closed
+pub mod Sized
+pub mod Marks
+pub mod Traces
+pub mod Tallies
+pub mod Attaining
+pub mod Sought
+pub mod Trails
+pub mod Witnesses

@@ -1,0 +1,3 @@
+pub mod Closed
+pub mod Paths
+pub mod Trails
