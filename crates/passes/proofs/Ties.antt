@@ -142,7 +142,7 @@ module _ (b : List ℕ) (laid : Laid b) (ordered : Ordered b) (mild : Mild b) (e
   -- ---- grants
   to-grant : (o : Out) (g : Page) (j : ℕ) (h : Tag) → j < length (o .session .members) → Shows o g old
       → Shows (pick (due (view (o .session) j .publication) (view (o .session) j) h) (tell o j (withGrant (view (o .session) j) (revisionOf (view (o .session) j .publication)) h) (Grant j (revisionOf (view (o .session) j .publication)) h ∷ [])) o)
-        (grantTo g j (recordOf (view (o .session) j)) h) old
+      (grantTo g j (recordOf (view (o .session) j)) h) old
   unfolding grantTo
   to-grant o g j h l w =
       let m = view (o .session) j in
