@@ -17,3 +17,6 @@ pub mod Marked
 pub mod Heard
 pub mod Words
 pub mod Demands
+pub mod Recognised
+pub mod Whole
+pub mod Compiles

@@ -3,15 +3,17 @@
 use Prim.Native.Nat.{ℕ}
 use mathlib.Core.Path.{_≡_}
 use mathlib.Core.Bool.{true}
-use mathlib.Core.List.{List, [], _∷_}
+use mathlib.Core.List.{List, [], _∷_, _++_}
 use Rattle.tags.specs.declared.Tag.the-variants.{Never, Finite}
 use Rattle.tags.specs.Tags.{top, lessOf}
 use Rattle.plans.specs.declared.Plan.{Plan}
+use Rattle.basis.specs.Numbers.{bytes}
 use Rattle.delays.specs.Graph.{directOf, minimumOf}
 use Rattle.delays.specs.Refusals.{accepted, zeroCycle, tooFar, refusalOf}
+use Rattle.image.specs.Image.{words, imageOf}
 use Rattle.states.specs.Sessions.{fresh}
 use Rattle.states.specs.Steps.{finished}
-use Rattle.demands.specs.Samples.{places, P, case, answers, after-all, deliveries}
+use Rattle.demands.specs.Samples.{places, planP, P, case, answers, after-all, deliveries}
 
 -- n members with ids 10, 20, 30, and m edges
 unfoldable pub plan : ℕ → ℕ → List ℕ → List ℕ → List ℕ → Plan
@@ -43,6 +45,18 @@ lowered = plan 3 3 (0 ∷ 0 ∷ 1 ∷ []) (2 ∷ 1 ∷ 2 ∷ []) (9 ∷ 2 ∷ 3 
 unfoldable pub selfLoop : Plan
 selfLoop = plan 1 1 (0 ∷ []) (0 ∷ []) (0 ∷ [])
 
+-- "Header 1,2,1,1,1,1,48,128,152,168,184,188. Members (100,1,0,0,0,0,0,1,0) and (200,1,0,1,0,1,1,0,0). Edge (7,0,1,10).
+-- Direct (0,0,10). Transitive (0,0,10). Downstream 1."
+unfoldable pub imageP : List ℕ
+imageP =
+    words (1 ∷ 2 ∷ 1 ∷ 1 ∷ 1 ∷ 1 ∷ 48 ∷ 128 ∷ 152 ∷ 168 ∷ 184 ∷ 188 ∷ [])
+    ++ (bytes 8 100 ++ (words (1 ∷ 0 ∷ 0 ∷ 0 ∷ 0 ∷ 0 ∷ 1 ∷ 0 ∷ [])
+    ++ (bytes 8 200 ++ (words (1 ∷ 0 ∷ 1 ∷ 0 ∷ 1 ∷ 1 ∷ 0 ∷ 0 ∷ [])
+    ++ (bytes 8 7 ++ (words (0 ∷ 1 ∷ []) ++ (bytes 8 10
+    ++ (words (0 ∷ 0 ∷ []) ++ (bytes 8 10
+    ++ (words (0 ∷ 0 ∷ []) ++ (bytes 8 10
+    ++ words (1 ∷ []))))))))))))
+
 pub record Marked : Type 0 where
   -- (10,3) less 0, 10, 11: (10,3), (0,M), NEVER.
   pub less-0 : lessOf (Finite 10 3) 0 ≡ Finite 10 3
@@ -58,6 +72,8 @@ pub record Marked : Type 0 where
   pub transitive : minimumOf lowered 0 2 ≡ 5
   -- a zero self-loop is refused with 8, its component the one member
   pub self-loop : refusalOf selfLoop ≡ zeroCycle 1
+  -- P's bytes
+  pub bytes : imageOf planP ≡ imageP
   -- P's session by steps, every delivery; then finished
   pub session : answers P (fresh 2 5) case ≡ deliveries
   pub ended : finished P (after-all P (fresh 2 5) case) ≡ true
