@@ -37,7 +37,7 @@ use Rattle.basis.proofs.Parts.{replaced-none}
 use Rattle.states.specs.declared.Delivery.the-variants.{Failed}
 use Rattle.states.specs.Records.{freshState}
 use Rattle.states.specs.Sessions.{blank, fresh, withCause}
-use Rattle.states.specs.Steps.{toAll, abandon, ended}
+use Rattle.states.specs.Steps.{toAll}
 use Rattle.states.specs.Formed.{Sound}
 use Rattle.rows.specs.Rows.{Laid}
 use Rattle.members.specs.Codes.{laysOf}
@@ -48,7 +48,7 @@ use Rattle.members.proofs.Sessions.{sound-earliests, sound-completeds}
 use Rattle.passes.specs.Pages.{failAt, Ready}
 use Rattle.passes.specs.Ties.{allWords}
 use Rattle.passes.proofs.Ties.{all-shows}
-use Rattle.rti.specs.Kinds.{endedState, failedIn, abandonedIn}
+use Rattle.rti.specs.Kinds.{endedState, failedIn}
 use Rattle.rti.specs.declared.Turn.{Turn}
 use Rattle.rti.specs.Kinds.{went, barred, helloIn, publishIn, confirmIn, completeIn, completeSlab, heldAt, stopIn, phaseIn}
 
@@ -135,15 +135,6 @@ failed-shows x ws cause code n =
   where
     none-sent : (l : List ℕ) → replaced 0 (allWords []) l ≡ l
     none-sent l = unfold allWords in replaced-none 0 l
-
-pub abandon-shows : (b : List ℕ) (x : Session) (ws : List ℕ) (code : ℕ) → Shows (abandon (netIn b) x code) (abandonedIn (stateOf x) ws code (members b)) ws
-unfolding abandonedIn abandon ended stateOf
-abandon-shows b x ws code = rw (net-count b) (go (ltb 0 (x .cause)))
-  where
-    go : (c : Bool) → Shows (record { session = pick c x (withCause x 20 code); sent = toAll (λ j. Failed j (pick c x (withCause x 20 code) .cause) (pick c x (withCause x 20 code) .code)) (members b) })
-        (pick c (failedIn (stateOf x) ws (x .cause) (x .code) (members b)) (failedIn (stateOf x) ws 20 code (members b))) ws
-    go true = failed-shows x ws (x .cause) (x .code) (members b)
-    go false = failed-shows x ws 20 code (members b)
 
 -- ---- a state that can be read
 pub ready-of : (b : List ℕ) → Laid b → (x : Session) → Sound (netIn b) x → (w : List ℕ) → 64 * members b ≤ length w → Ready (stateOf x) (slabOf x w) (members b)

@@ -142,10 +142,6 @@ carryIn b p ws slab i e t h =
 unfoldable pub payloadIn : List ℕ → Progress → List ℕ → List ℕ → ℕ → ℕ → Tag → ℕ → Place
 payloadIn b p ws slab i k t h = pick (ltb k (edges b)) (carryIn b p ws slab i k t h) (at (barred 26 p) ws slab)
 
--- ---- the owner's abort: cause 20 and its code unless a cause stands, Failed to all
-unfoldable pub abandonedIn : State → List ℕ → ℕ → ℕ → Page
-abandonedIn s ws code n = pick (ltb 0 (s .cause)) (failedIn s ws (s .cause) (s .code) n) (failedIn s ws 20 code n)
-
 -- ---- by the kind
 abbrev pub turnIn : List ℕ → Progress → List ℕ → List ℕ → ℕ → Request → Place
 turnIn b p ws slab i (Hello d) = at (helloIn p i d) ws slab

@@ -4,7 +4,7 @@ ghost use Prim.Native.Nat.{_+_, _*_, _<_, _≤_};
 ghost use lib.ListN.{length};
 ghost use Rattle.requests.specs.Phases.{phaseSaid};
 ghost use Rattle.passes.specs.Pages.{on, recordAt, Ready};
-ghost use Rattle.rti.specs.Kinds.{at, went, barred, helloIn, welcomeIn, publishIn, confirmIn, completeIn, completeSlab, Readable, phaseIn, stopIn, routeRefusal, storeIn, endedState, failedIn, finishedState, Open, deliverIn, carryIn, payloadIn, abandonedIn, turnIn, afterIn};
+ghost use Rattle.rti.specs.Kinds.{at, went, barred, helloIn, welcomeIn, publishIn, confirmIn, completeIn, completeSlab, Readable, phaseIn, stopIn, routeRefusal, storeIn, endedState, failedIn, finishedState, Open, deliverIn, carryIn, payloadIn, turnIn, afterIn};
 ghost use Rattle.members.specs.Rules.{Mild};
 ghost use Rattle.states.specs.Sessions.{fresh};
 ghost use Rattle.members.specs.Codes.{stateOf, slabOf};
@@ -296,19 +296,6 @@ fn payload(
         return carry(plan, p, slab, out, i, e, t, handle);
     }
     refuse(26, p)
-}
-
-// The owner's abort: Failed to all n members, with the cause that stands, or else 20 and the code.
-fn abandon(s: State, out: &mut [u64], code: u64, n: usize) -> Progress
-    requires { ⌜ (n ≤ 32) × (7 * n ≤ length (now out)) ⌝ }
-    ensures { λ r. ⌜ on r (now (out .exit)) ≡ abandonedIn s (now (out .entry)) code n ⌝ }
-{
-    let cause = s.cause;
-    let last = s.code;
-    if cause > 0 {
-        return fail(s, out, cause, last, n);
-    }
-    fail(s, out, 20, code, n)
 }
 
 // A fresh state of n members, with their stretches of the slab set to 0.
