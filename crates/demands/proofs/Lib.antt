@@ -14,7 +14,6 @@ pub mod Analysis
 pub mod Samples
 pub mod Shams
 pub mod Marked
-pub mod Heard
 pub mod Words
 pub mod Demands
 pub mod Recognised

@@ -38,7 +38,7 @@ use Rattle.demands.specs.Histories.{opened as Reached·opened, asked as 
 use Rattle.demands.specs.Words.{Bounded, heardBy, Held, opened, asked, aborted, refused, Stands}
 use Rattle.requests.specs.Asking.{askedBy}
 use Rattle.demands.proofs.Histories.{formed as sound}
-use Rattle.demands.proofs.Heard.{asked-fits}
+use Rattle.requests.proofs.Heard.{asked-fits}
 use Rattle.demands.proofs.Nets.{demand-3-alike}
 
 -- ---- each member's stretch

@@ -22,11 +22,11 @@ use Rattle.states.specs.declared.Publication.the-variants.{Published}
 use Rattle.states.specs.declared.Request.{Request}
 use Rattle.states.specs.Sessions.{Member, Session, orNever, blank, fresh, view}
 use Rattle.states.specs.Rules.{isSet}
-use Rattle.states.specs.Steps.{finite, any, isAbsent, badPublication, badCompletion, badTarget, publishing, step, abandon}
+use Rattle.states.specs.Steps.{finite, any, isAbsent, badPublication, badCompletion, badTarget, refusalOf, publishing, effect, step, abandon}
 use Rattle.states.specs.Formed.{Fits, FitsNext, FitsRequest, Word, WordNext, Words, WellFormed, Sound}
 use Rattle.states.proofs.Laws.{Le, Lt, picked, either-false, not-false}
-use Rattle.states.proofs.Passes.{step-long, abandon-long, fresh-long}
-use Rattle.states.proofs.Memberwise.{Kept, step-all, abandon-all, fresh-all}
+use Rattle.states.proofs.Passes.{effect-long, step-long, abandon-long, fresh-long}
+use Rattle.states.proofs.Memberwise.{Kept, passed, effect-all, step-all, abandon-all, fresh-all}
 
 pub word : (t : Tag) → Fits t → finite t ≡ true → Word t
 word Never h e = clash e
@@ -104,6 +104,13 @@ everywhere p s h i = go (ltb i (p .count)) refl
 -- ---- a session is well formed from its opening on, whatever is asked
 pub fresh-sound : (p : Net) (identity : ℕ) → Sound p (fresh (p .count) identity)
 fresh-sound p identity = record { count = fresh-long (p .count) identity; each = λ i l. fresh-all p (λ i m. WellFormed (p .capacity i) m) (kept p) (p .count) i }
+
+pub effect-sound : (p : Net) (s : Session) (k : ℕ) (q : Request) → FitsRequest q → refusalOf p s k q ≡ 0 → Sound p s → Sound p (effect p s k q .session)
+effect-sound p s k q a free h =
+    record {
+      count = effect-long (p .count) p s k q (h .count);
+      each = λ i l. effect-all p (λ i m. WellFormed (p .capacity i) m) (kept p) s k q a (passed p s k q free) (everywhere p s h) i;
+    }
 
 pub step-sound : (p : Net) (s : Session) (k : ℕ) (q : Request) → FitsRequest q → Sound p s → Sound p (step p s k q .session)
 step-sound p s k q a h =

@@ -109,12 +109,12 @@ module _ (p : Net) (Q : ℕ → Member → Type 0) (law : Kept p Q) where
   settle-all i o h = each-keeps AllOut (visit (bounding p)) (visit-all (bounding p) (λ v k. law .hears k (v k) _)) (p .count) (idles p (grants p i o)) (idles-all (grants p i o) (grants-all i o h))
 
   -- ---- each kind
-  pub accepted-all : (s : Session) (k : ℕ) (q : Request) → FitsRequest q → Passed p s k q → All s → All (accepted p s k q .session)
-  unfolding accepted effect welcome lifecycle kindRefusal payloadRefusal
-  accepted-all s k (Hello d) a g h = swap s k _ h (law .joins k (view s k) (h k))
-  accepted-all s k (Publish r e) a g h = settle-all k (effect p s k (Publish r e)) (swap s k _ h (law .publishes k (view s k) r e a (when-zero (badPublication (view s k) r e) 23 (g .right)) (h k)))
-  accepted-all s k (Complete t) a g h = settle-all k (effect p s k (Complete t)) (swap s k _ h (law .completes k (view s k) t a (when-zero (badCompletion (view s k) t) 24 (g .right)) (h k)))
-  accepted-all s k (Payload r t x) a g h = settle-all k (effect p s k (Payload r t x)) (swap s j _ h (law .receives j (view s j) t a (is-finite (w .0)) (when-zero bad 28 (w .1)) (when-zero over 29 (w .2)) (h j)))
+  pub effect-all : (s : Session) (k : ℕ) (q : Request) → FitsRequest q → Passed p s k q → All s → AllOut (effect p s k q)
+  unfolding effect lifecycle kindRefusal payloadRefusal
+  effect-all s k (Hello d) a g h = swap s k _ h (law .joins k (view s k) (h k))
+  effect-all s k (Publish r e) a g h = swap s k _ h (law .publishes k (view s k) r e a (when-zero (badPublication (view s k) r e) 23 (g .right)) (h k))
+  effect-all s k (Complete t) a g h = swap s k _ h (law .completes k (view s k) t a (when-zero (badCompletion (view s k) t) 24 (g .right)) (h k))
+  effect-all s k (Payload r t x) a g h = swap s j _ h (law .receives j (view s j) t a (is-finite (w .0)) (when-zero bad 28 (w .1)) (when-zero over 29 (w .2)) (h j))
     where
       j : ℕ
       j = routeAt p r .target
@@ -138,8 +138,18 @@ module _ (p : Net) (Q : ℕ → Member → Type 0) (law : Kept p Q) where
 
       is-finite : when (badPayload (view s k) (routeAt p r .delay) t) 28 ≡ 0 → finite t ≡ true
       is-finite z = sound (view s k) (routeAt p r .delay) t (when-zero (badPayload (view s k) (routeAt p r .delay) t) 27 z)
-  accepted-all s k (ConfirmIdle r) a g h = settle-all k (effect p s k (ConfirmIdle r)) (swap s k _ h (law .asks k (view s k) r (h k)))
-  accepted-all s k Stop a g h = settle-all k (effect p s k Stop) (swap s k _ h (law .stops k (view s k) (may-stop p s k (g .fits)) (h k)))
+  effect-all s k (ConfirmIdle r) a g h = swap s k _ h (law .asks k (view s k) r (h k))
+  effect-all s k Stop a g h = swap s k _ h (law .stops k (view s k) (may-stop p s k (g .fits)) (h k))
+  effect-all s k (Abort c) a g h = h
+
+  pub accepted-all : (s : Session) (k : ℕ) (q : Request) → FitsRequest q → Passed p s k q → All s → AllOut (accepted p s k q)
+  unfolding accepted welcome
+  accepted-all s k (Hello d) a g h = effect-all s k (Hello d) a g h
+  accepted-all s k (Publish r e) a g h = settle-all k (effect p s k (Publish r e)) (effect-all s k (Publish r e) a g h)
+  accepted-all s k (Complete t) a g h = settle-all k (effect p s k (Complete t)) (effect-all s k (Complete t) a g h)
+  accepted-all s k (Payload r t x) a g h = settle-all k (effect p s k (Payload r t x)) (effect-all s k (Payload r t x) a g h)
+  accepted-all s k (ConfirmIdle r) a g h = settle-all k (effect p s k (ConfirmIdle r)) (effect-all s k (ConfirmIdle r) a g h)
+  accepted-all s k Stop a g h = settle-all k (effect p s k Stop) (effect-all s k Stop a g h)
   accepted-all s k (Abort c) a g h = h
 
   pub step-all : (s : Session) (k : ℕ) (q : Request) → FitsRequest q → All s → All (step p s k q .session)
