@@ -1,4 +1,2 @@
-pub mod Answers
-pub mod Effects
-pub mod Payloads
-pub mod Below
+pub mod Opening
+pub mod Refusals

@@ -1,4 +1,4 @@
-use Rattle.rti.proofs.Effects.{fresh-state, fresh-slab}
+use Rattle.rti.proofs.Opening.{fresh-state, fresh-slab}
 use mathlib.Core.Path.{_≡_, refl, sym, ap, ap₂, _∙_}
 use borrow.Author.Needs.{needs}
 use Rattle.rti.proofs.begin.Statement.{statement}

@@ -1,4 +1,4 @@
-use Rattle.rti.specs.Kinds.{finishedState}
+use Rattle.rti.specs.Entries.{finishedState}
 use borrow.Author.Tests.{eq-eqb, ne-eqb, lt-ltb, le-ltb, le-leb, lt-leb, not-true, not-false}
 use mathlib.Core.Path.{_≡_, refl, sym, ap, ap₂, _∙_}
 use borrow.Author.Needs.{needs}
