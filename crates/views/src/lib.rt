@@ -63,6 +63,22 @@ pub fn transitive_row(plan: &[u8], k: usize) -> Row
 }
 
 impl<'a> View<'a> {
+    // Direct row k.
+    pub fn direct(self, k: usize) -> Row
+        requires { ⌜ Shows self × (k < self .counts .directs) ⌝ }
+        ensures { λ r. ⌜ r ≡ directRow (now (self .entry .plan)) k ⌝ }
+    {
+        direct_row(self.plan, k)
+    }
+
+    // Transitive row k.
+    pub fn transitive(self, k: usize) -> Row
+        requires { ⌜ Shows self × (k < self .counts .transitives) ⌝ }
+        ensures { λ r. ⌜ r ≡ transitiveRow (now (self .entry .plan)) k ⌝ }
+    {
+        transitive_row(self.plan, k)
+    }
+
     // The member that downstream row k names.
     pub fn downstream(self, k: usize) -> usize
         requires { ⌜ Shows self × (k < self .counts .downstreams) ⌝ }
