@@ -3,7 +3,7 @@
 use Prim.Native.Nat.{ℕ}
 use mathlib.Core.Path.{_≡_}
 use mathlib.Core.List.{List}
-use denote.Ref.{now}
+use denote.Ref.{RefT, now}
 use Rattle.rows.specs.Rows.{Laid, members, edges, directs, transitives, downstreams, directSource, directDelay, transitiveSource, transitiveDelay}
 use Rattle.views.specs.declared.Counts.{Counts}
 use Rattle.views.specs.declared.Row.{Row}
@@ -12,6 +12,10 @@ use Rattle.views.specs.declared.View.{View}
 -- "counts of members, edges, direct, transitive, downstream rows"
 abbrev pub countsOf : List ℕ → Counts
 countsOf b = record { members = members b; edges = edges b; directs = directs b; transitives = transitives b; downstreams = downstreams b }
+
+-- a plan with its counts
+abbrev pub viewOf : RefT (List ℕ) → View
+viewOf p = record { plan = p; counts = countsOf (now p) }
 
 -- "Direct and transitive row: source u32, zero u32, delay u64."
 abbrev pub directRow : List ℕ → ℕ → Row

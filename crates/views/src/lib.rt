@@ -3,7 +3,7 @@
 ghost use mathlib.Core.Path.{_≡_};
 ghost use Prim.Native.Nat.{_<_};
 ghost use Rattle.rows.specs.Rows.{Laid, directs, transitives, downstreamTarget};
-ghost use Rattle.views.specs.Views.{countsOf, directRow, transitiveRow, Shows};
+ghost use Rattle.views.specs.Views.{countsOf, viewOf, directRow, transitiveRow, Shows};
 
 // How many members, edges and rows a compiled plan has.
 pub struct Counts {
@@ -63,6 +63,17 @@ pub fn transitive_row(plan: &[u8], k: usize) -> Row
 }
 
 impl<'a> View<'a> {
+    // The view over a plan.
+    pub fn new(plan: &'a [u8]) -> View<'a>
+        requires { ⌜ Laid (now plan) ⌝ }
+        ensures { λ r. ⌜ r ≡ viewOf (plan .entry) ⌝ }
+    {
+        View {
+            plan: plan,
+            counts: counted(plan),
+        }
+    }
+
     // Direct row k.
     pub fn direct(self, k: usize) -> Row
         requires { ⌜ Shows self × (k < self .counts .directs) ⌝ }
