@@ -10,3 +10,12 @@ pub fn complete(m: &mut MemberState, t: Tag, left: usize)
 {
     *m = records::completed(*m, t, left);
 }
+
+// The record completed, by a loan of it.
+pub fn completed(m: MemberState, t: Tag, left: usize) -> MemberState
+    ensures { λ r. ⌜ r ≡ completedRecord m t left ⌝ }
+{
+    let mut r = m;
+    complete(&mut r, t, left);
+    r
+}
