@@ -332,7 +332,7 @@ pub fn complete(s: State, slab: &mut [u64], i: usize, t: Tag) -> State
 {
     let m = s.members[i];
     let left = transit::remove_for(slab, i, m.held, t);
-    put(s, i, records::completed(m, t, left))
+    put(s, i, completion::completed(m, t, left))
 }
 
 // A tag's offset, 0 where it has none.
