@@ -2,7 +2,7 @@
 // Each reader calls a function on plain offsets.
 ghost use mathlib.Core.Path.{_≡_};
 ghost use Prim.Native.Nat.{_<_};
-ghost use Rattle.rows.specs.Rows.{Laid, directs, transitives, downstreamTarget};
+ghost use Rattle.rows.specs.Rows.{Laid, directs, transitives, downstreams, downstreamTarget};
 ghost use Rattle.views.specs.Views.{countsOf, viewOf, directRow, transitiveRow, Shows};
 
 // How many members, edges and rows a compiled plan has.
@@ -97,4 +97,12 @@ impl<'a> View<'a> {
     {
         rows::downstream(self.plan, k)
     }
+}
+
+// The member that downstream row k of a plan names, by a view over the plan: whoever calls this needs no view.
+pub fn downstream(plan: &[u8], k: usize) -> usize
+    requires { ⌜ Laid (now plan) × (k < downstreams (now plan)) ⌝ }
+    ensures { λ r. ⌜ r ≡ downstreamTarget (now (plan .entry)) k ⌝ }
+{
+    View::new(plan).downstream(k)
 }
