@@ -117,7 +117,7 @@ pub fn grant_by(
     requires { ⌜ Laid (now plan) × Mild (now plan) × AllLow earliest × AllLow completed × (k < downstreams (now plan)) × (7 * p .sent + 7 ≤ length (now out)) ⌝ }
     ensures { λ r. ⌜ on r (now (out .exit)) ≡ grantBy (now (plan .entry)) earliest completed (on p (now (out .entry))) k ⌝ }
 {
-    let j = rows::downstream(plan, k);
+    let j = views::downstream(plan, k);
     grant_one(plan, earliest, completed, p, out, j)
 }
 
