@@ -5,7 +5,7 @@
 --     meets                a walk of that MIR, by hand: where `name` meets its contract the reader meets its own
 -- The view is Copy: what it owns is had twice, one copy is kept whole for the exit, and of the other what the plan owns goes to the callee, beside the lifetime's token, which comes back.
 -- Assumes nothing.
-use mathlib.Core.Path.{_≡_, refl, ap, subst}
+use mathlib.Core.Path.{_≡_, refl, subst}
 use Prim.Native.Nat.{ℕ, _<_, _^_}
 use mathlib.Core.List.{List, [], _∷_}
 use lib.Dec.{T as Holds}

@@ -46,6 +46,7 @@ use Rattle.states.specs.declared.MemberState.{MemberState}
 use Rattle.states.proofs.MemberState as T
 use Rattle.states.proofs.MemberState.Laws as T′
 use Rattle.records.specs.Records.{completedRecord}
+use Rattle.completion.proofs.Spelled.{record-val, tag-val}
 use Rattle.records.proofs.completed as rule
 use Rattle.records.proofs.completed.Symbol as rule-def
 use Rattle.records.proofs.completed.Symbol.{name as #records·completed}
@@ -60,13 +61,6 @@ Arg = RefT MemberState × (Tag × (ℕ × Unit {0}))
 
 abbrev stayed : Stays (complete.ended .signature .params) (complete.ended .kept)
 stayed = (stay-ref (0 ∷ []) tt (plain (λ _. T.the-row)), (stay-none (λ _. G.the-row) yes, (stay-none (λ _. usize) yes, tt)))
-
--- the machine value of a record, and of a tag
-abbrev record-val : MemberState → Val
-record-val h = LL.val T.the-type T′.the-laws h
-
-abbrev tag-val : Tag → Val
-tag-val t = EL.val G.the-type G′.the-laws t
 
 -- the contract that the proof cites
 abbrev Rule : {M : Type 1} (𝓤 : URA M) (H : Heap 𝓤) (A : Atoms 𝓤) (mem : Memory → SProp 𝓤) (run : Routine → Fun 𝓤) → Contract 𝓤

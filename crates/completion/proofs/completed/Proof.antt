@@ -47,6 +47,7 @@ use Rattle.states.specs.declared.MemberState.{MemberState}
 use Rattle.states.proofs.MemberState as T
 use Rattle.states.proofs.MemberState.Laws as T′
 use Rattle.records.specs.Records.{completedRecord}
+use Rattle.completion.proofs.Spelled.{record-val, tag-val}
 use Rattle.completion.proofs.complete as complete
 use Rattle.completion.proofs.complete.Symbol as complete-def
 use Rattle.completion.proofs.complete.Symbol.{name as #completion·complete}
@@ -58,13 +59,6 @@ use Rattle.completion.proofs.completed.Code as code
 
 abbrev stayed : Stays (completed.ended .signature .params) (completed.ended .kept)
 stayed = (stay-none (λ _. T.the-row) yes, (stay-none (λ _. G.the-row) yes, (stay-none (λ _. usize) yes, tt)))
-
--- the machine value of a record, and of a tag
-abbrev record-val : MemberState → Val
-record-val h = LL.val T.the-type T′.the-laws h
-
-abbrev tag-val : Tag → Val
-tag-val t = EL.val G.the-type G′.the-laws t
 
 -- the contract that the proof cites
 abbrev Complete : {M : Type 1} (𝓤 : URA M) (H : Heap 𝓤) (A : Atoms 𝓤) (at-mem : Memory → SProp 𝓤) (run : Routine → Fun 𝓤) → Contract 𝓤

@@ -38,7 +38,7 @@ use denote.Triple.Table.{entered, cited}
 use denote.Triple.Walked.{says, needs, Stays, stay-none-slice, walkOf, goes-none-slice, Walks, ends-at, walked, walk-meets}
 use denote.Exit.{yes}
 use Rattle.rows.specs.Rows.{Laid}
-use Rattle.views.specs.Views.{countsOf, viewOf}
+use Rattle.views.specs.Views.{countsOf}
 use Rattle.views.specs.declared.Counts.{Counts}
 use Rattle.views.specs.declared.View.{View}
 use Rattle.views.proofs.Counts as N
