@@ -1,9 +1,11 @@
 // The commands about the compiled plan, and about what is lent to a call.
 ghost use Prim.Native.Nat.{_≤_};
 ghost use lib.ListN.{length};
+use crate::session::Lent;
 use crate::session::ROOM;
 use crate::session::SLAB;
 use crate::session::Session;
+use crate::session::least;
 use crate::session::say_error;
 use crate::session::say_number;
 use crate::session::say_refusal;
@@ -37,12 +39,6 @@ pub fn read_given(line: &[u8], from: usize, bytes: &mut [u8]) -> Given
         count: said.count,
         end,
     }
-}
-
-fn least(a: u64, b: usize) -> usize
-    ensures { λ r. ⌜ r ≤ b ⌝ }
-{
-    if a < b as u64 { a as usize } else { b }
 }
 
 // The first bytes of the image, in hex.
@@ -133,32 +129,42 @@ pub fn image(
 }
 
 // The one number that the rest of a line says, at most so large.
-fn one_number(line: &[u8], from: usize, most: usize) -> text::Number {
+pub fn one_number(line: &[u8], from: usize, most: u64) -> text::Number {
     let mut words = [0u64; 1];
     let n = text::read_numbers(line, from, &mut words);
-    let good = n.good && n.count == 1 && words[0] <= most as u64;
+    let good = n.good && n.count == 1 && words[0] <= most;
     text::Number {
         good,
         value: words[0],
     }
 }
 
+// So many words lent, at most as many as there are.
+fn lent(words: u64, most: usize) -> Lent {
+    Lent {
+        said: true,
+        words: least(words, most),
+    }
+}
+
 // slab WORDS
 pub fn slab(line: &[u8], from: usize, out: &mut [u8], mut s: Session) -> Session {
-    let n = one_number(line, from, SLAB);
+    let n = one_number(line, from, SLAB as u64);
     if !n.good {
         return say_error(out, s);
     }
-    s.lent = n.value as usize;
+    let said = lent(n.value, SLAB);
+    s.slab = said;
     say_number(out, s, b"slab", n.value)
 }
 
 // room WORDS
 pub fn room(line: &[u8], from: usize, out: &mut [u8], mut s: Session) -> Session {
-    let n = one_number(line, from, ROOM);
+    let n = one_number(line, from, ROOM as u64);
     if !n.good {
         return say_error(out, s);
     }
-    s.room = n.value as usize;
+    let said = lent(n.value, ROOM);
+    s.room = said;
     say_number(out, s, b"room", n.value)
 }

@@ -1,4 +1,5 @@
 // The script language over the entries: commands on standard input, one a line; answers on standard output.
+mod calling;
 mod compiling;
 mod holding;
 mod routing;
@@ -26,6 +27,9 @@ enum Command {
     Image,
     Slab,
     Room,
+    Open,
+    Request,
+    Abort,
     Dump,
     State,
     Member,
@@ -48,6 +52,15 @@ fn command_of(name: &[u8]) -> Command {
     }
     if check::same(name, b"room") {
         return Command::Room;
+    }
+    if check::same(name, b"open") {
+        return Command::Open;
+    }
+    if check::same(name, b"request") {
+        return Command::Request;
+    }
+    if check::same(name, b"abort") {
+        return Command::Abort;
     }
     if check::same(name, b"dump") {
         return Command::Dump;
@@ -89,6 +102,9 @@ fn run(
         Command::Image => compiling::image(line, end, scratch, out, image, s),
         Command::Slab => compiling::slab(line, end, out, s),
         Command::Room => compiling::room(line, end, out, s),
+        Command::Open => calling::open(line, end, image, slab, out, s),
+        Command::Request => calling::request(line, end, image, slab, out, s),
+        Command::Abort => calling::abort(line, end, image, slab, out, s),
         Command::Dump => holding::dump(line, end, slab, out, s),
         Command::State => holding::state(line, end, out, s),
         Command::Member => holding::member(line, end, slab, out, s),

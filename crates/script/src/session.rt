@@ -1,4 +1,5 @@
 // What a script holds between its lines, and the answers that every command shares.
+ghost use Prim.Native.Nat.{_≤_};
 use plans::Refusal;
 use states::State;
 
@@ -13,30 +14,53 @@ pub const SLAB: usize = 2112;
 
 pub const ROOM: usize = 512;
 
+// How many words are lent to a call: so many as a command said, or, where none has, as the compiled plan in use asks for.
+pub struct Lent {
+    pub said: bool,
+    pub words: usize,
+}
+
 // What a script holds, besides its buffers.
 pub struct Session {
     pub state: State,
     // bytes of the compiled plan in use
     pub size: usize,
-    // slab words and delivery words that are lent to a call
-    pub lent: usize,
-    pub room: usize,
+    // slab words and delivery words
+    pub slab: Lent,
+    pub room: Lent,
     // the number of the line, from 1
     pub line: u64,
     // where the gathered answers end
     pub at: usize,
 }
 
-// Before the first line: no compiled plan, a session of no members, and all of the slab and the delivery buffer lent.
+// Before any command said how many words are lent.
+fn unsaid() -> Lent {
+    Lent {
+        said: false,
+        words: 0,
+    }
+}
+
+// Before the first line: no compiled plan, and a session of no members.
 pub fn start() -> Session {
+    let slab = unsaid();
+    let room = unsaid();
     Session {
         state: states::fresh(0, 0),
         size: 0,
-        lent: SLAB,
-        room: ROOM,
+        slab,
+        room,
         line: 0,
         at: 0,
     }
+}
+
+// The lesser of two numbers, the second a length.
+pub fn least(a: u64, b: usize) -> usize
+    ensures { λ r. ⌜ r ≤ b ⌝ }
+{
+    if a < b as u64 { a as usize } else { b }
 }
 
 // A word that ends its line.
