@@ -1,7 +1,7 @@
 // The commands that open a session and call it: what is lent to the entries, and what they answer.
 ghost use Prim.Native.Nat.{_<_, _≤_};
 use crate::compiling::one_number;
-use crate::session::Lent;
+use crate::session::AS_ASKED;
 use crate::session::ROOM;
 use crate::session::Session;
 use crate::session::least;
@@ -39,30 +39,28 @@ fn members(plan: &[u8]) -> usize
     least(n as u64, MEMBERS)
 }
 
-// How many words are lent, of so many that there are, if the plan asks for some.
-fn lent(said: Lent, asked: usize, most: usize) -> usize
+// How many words are lent, of so many that there are: what a command said, or else what the plan asks for.
+fn lent(said: usize, asked: usize, most: usize) -> usize
     ensures { λ r. ⌜ r ≤ most ⌝ }
 {
-    if said.said {
-        return least(said.words as u64, most);
+    if said == AS_ASKED {
+        return least(asked as u64, most);
     }
-    least(asked as u64, most)
+    least(said as u64, most)
 }
 
 // How many slab words are lent, of so many: 64 for each member where no command said.
-fn lent_slab(plan: &[u8], s: Session, most: usize) -> usize
+fn lent_slab(plan: &[u8], said: usize, most: usize) -> usize
     ensures { λ r. ⌜ r ≤ most ⌝ }
 {
-    let said = s.slab;
     let n = members(plan);
     lent(said, WIDTH * n, most)
 }
 
 // How many delivery words are lent: those of 2n + 1 deliveries where no command said.
-fn lent_room(plan: &[u8], s: Session) -> usize
+fn lent_room(plan: &[u8], said: usize) -> usize
     ensures { λ r. ⌜ r ≤ 512 ⌝ }
 {
-    let said = s.room;
     let n = members(plan);
     lent(said, DELIVERY * (2 * n + 1), ROOM)
 }
@@ -79,15 +77,13 @@ fn say_refused(out: &mut [u8], s: Session, number: u64) -> Session {
 }
 
 // A line for delivery i: its seven words.
-fn say_delivery(
-    out: &mut [u8],
-    mut s: Session,
-    deliveries: &[u64; ROOM],
-    i: usize,
-) -> Session
+fn say_delivery(out: &mut [u8], mut s: Session, deliveries: &[u64], i: usize) -> Session
     requires { ⌜ i < 73 ⌝ }
 {
     let start = DELIVERY * i;
+    if deliveries.len() < start {
+        return s;
+    }
     let word = text::put(out, s.at, b"deliver");
     let seven = put_words(out, word, &deliveries[start..], DELIVERY);
     s.at = text::put(out, seven, b"\n");
@@ -95,12 +91,7 @@ fn say_delivery(
 }
 
 // A line for each delivery below the count.
-fn say_deliveries(
-    out: &mut [u8],
-    s: Session,
-    deliveries: &[u64; ROOM],
-    count: usize,
-) -> Session {
+fn say_deliveries(out: &mut [u8], s: Session, deliveries: &[u64], count: usize) -> Session {
     let mut t = s;
     let mut i: usize = 0;
     while i < DELIVERIES && i < count {
@@ -140,7 +131,7 @@ fn opened(
     out: &mut [u8],
     mut s: Session,
 ) -> Session {
-    let words = lent_slab(plan, s, slab.len());
+    let words = lent_slab(plan, s.lent, slab.len());
     let a = rti::open(plan, identity, &mut slab[0..words]);
     if a.refusal != 0 {
         return say_refused(out, s, a.refusal);
@@ -159,8 +150,8 @@ fn handled(
     s: Session,
 ) -> Session {
     let mut deliveries = [0u64; ROOM];
-    let words = lent_slab(plan, s, slab.len());
-    let room = lent_room(plan, s);
+    let words = lent_slab(plan, s.lent, slab.len());
+    let room = lent_room(plan, s.room);
     let state = s.state;
     let a = rti::handle(
         plan,
@@ -175,8 +166,8 @@ fn handled(
 // Aborts the session with this code.
 fn aborted(plan: &[u8], code: u64, slab: &[u64], out: &mut [u8], s: Session) -> Session {
     let mut deliveries = [0u64; ROOM];
-    let words = lent_slab(plan, s, slab.len());
-    let room = lent_room(plan, s);
+    let words = lent_slab(plan, s.lent, slab.len());
+    let room = lent_room(plan, s.room);
     let state = s.state;
     let a = rti::abort(plan, state, &slab[0..words], code, &mut deliveries[0..room]);
     say_answer(out, s, &deliveries, a)

@@ -1,7 +1,6 @@
 // The commands about the compiled plan, and about what is lent to a call.
 ghost use Prim.Native.Nat.{_≤_};
 ghost use lib.ListN.{length};
-use crate::session::Lent;
 use crate::session::ROOM;
 use crate::session::SLAB;
 use crate::session::Session;
@@ -139,22 +138,13 @@ pub fn one_number(line: &[u8], from: usize, most: u64) -> text::Number {
     }
 }
 
-// So many words lent, at most as many as there are.
-fn lent(words: u64, most: usize) -> Lent {
-    Lent {
-        said: true,
-        words: least(words, most),
-    }
-}
-
 // slab WORDS
 pub fn slab(line: &[u8], from: usize, out: &mut [u8], mut s: Session) -> Session {
     let n = one_number(line, from, SLAB as u64);
     if !n.good {
         return say_error(out, s);
     }
-    let said = lent(n.value, SLAB);
-    s.slab = said;
+    s.lent = n.value as usize;
     say_number(out, s, b"slab", n.value)
 }
 
@@ -164,7 +154,6 @@ pub fn room(line: &[u8], from: usize, out: &mut [u8], mut s: Session) -> Session
     if !n.good {
         return say_error(out, s);
     }
-    let said = lent(n.value, ROOM);
-    s.room = said;
+    s.room = n.value as usize;
     say_number(out, s, b"room", n.value)
 }

@@ -14,43 +14,30 @@ pub const SLAB: usize = 2112;
 
 pub const ROOM: usize = 512;
 
-// How many words are lent to a call: so many as a command said, or, where none has, as the compiled plan in use asks for.
-pub struct Lent {
-    pub said: bool,
-    pub words: usize,
-}
+// More than a command can lend: as many words as the compiled plan in use asks for.
+pub const AS_ASKED: usize = 4096;
 
 // What a script holds, besides its buffers.
 pub struct Session {
     pub state: State,
     // bytes of the compiled plan in use
     pub size: usize,
-    // slab words and delivery words
-    pub slab: Lent,
-    pub room: Lent,
+    // slab words and delivery words that are lent to a call
+    pub lent: usize,
+    pub room: usize,
     // the number of the line, from 1
     pub line: u64,
     // where the gathered answers end
     pub at: usize,
 }
 
-// Before any command said how many words are lent.
-fn unsaid() -> Lent {
-    Lent {
-        said: false,
-        words: 0,
-    }
-}
-
-// Before the first line: no compiled plan, and a session of no members.
+// Before the first line: no compiled plan, a session of no members, and no command has said how much is lent.
 pub fn start() -> Session {
-    let slab = unsaid();
-    let room = unsaid();
     Session {
         state: states::fresh(0, 0),
         size: 0,
-        slab,
-        room,
+        lent: AS_ASKED,
+        room: AS_ASKED,
         line: 0,
         at: 0,
     }
