@@ -124,13 +124,7 @@ fn say_answer(out: &mut [u8], mut s: Session, deliveries: &[u64; ROOM], a: Answe
 }
 
 // Opens a session of this identity.
-fn opened(
-    plan: &[u8],
-    identity: u64,
-    slab: &mut [u64],
-    out: &mut [u8],
-    mut s: Session,
-) -> Session {
+fn opened(plan: &[u8], identity: u64, slab: &mut [u64], out: &mut [u8], mut s: Session) -> Session {
     let words = lent_slab(plan, s.lent, slab.len());
     let a = rti::open(plan, identity, &mut slab[0..words]);
     if a.refusal != 0 {
@@ -142,13 +136,7 @@ fn opened(
 }
 
 // Hands a request to the session.
-fn handled(
-    plan: &[u8],
-    request: &[u64],
-    slab: &mut [u64],
-    out: &mut [u8],
-    s: Session,
-) -> Session {
+fn handled(plan: &[u8], request: &[u64], slab: &mut [u64], out: &mut [u8], s: Session) -> Session {
     let mut deliveries = [0u64; ROOM];
     let words = lent_slab(plan, s.lent, slab.len());
     let room = lent_room(plan, s.room);
