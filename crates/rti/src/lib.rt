@@ -133,13 +133,7 @@ pub fn handle(
 }
 
 // The owner's abort, with its code.
-pub fn abort(
-    plan: &[u8],
-    state: State,
-    slab: &[u64],
-    code: u64,
-    deliveries: &mut [u64],
-) -> Answer
+pub fn abort(plan: &[u8], state: State, slab: &[u64], code: u64, deliveries: &mut [u64]) -> Answer
     ensures { λ r. ⌜ leaving r (now (slab .entry)) (now (deliveries .exit)) ≡ aborted (now (plan .entry)) state (now (slab .entry)) code (now (deliveries .entry)) ⌝ }
 {
     let refusal = abort_refusal(plan, state, slab, deliveries.len());

@@ -90,7 +90,14 @@ fn after(plan: &[u8], p: Progress, slab: &[u64], out: &mut [u64], i: usize, q: R
 }
 
 // A request of member i that nothing refuses.
-fn accept(plan: &[u8], s: State, slab: &mut [u64], out: &mut [u64], i: usize, q: Request) -> Progress
+fn accept(
+    plan: &[u8],
+    s: State,
+    slab: &mut [u64],
+    out: &mut [u64],
+    i: usize,
+    q: Request,
+) -> Progress
     requires { ⌜ Runs (now plan) × Stands (now plan) s (now slab) × (i < members (now plan)) × (refusalOf (netIn (now plan)) (sessionOf s (now slab)) i q ≡ 0) × FitsRequest q × (7 * (1 + members (now plan) + members (now plan)) ≤ length (now out)) ⌝ }
     ensures { λ r. ⌜ Leaves (accepted (netIn (now (plan .entry))) (sessionOf s (now (slab .entry))) i q) r (now (slab .exit)) (now (out .exit)) (now (slab .entry)) (now (out .entry)) ⌝ }
 {
@@ -116,7 +123,14 @@ fn code(q: Request) -> u64
 }
 
 // A request in a session that has not ended: refused, or accepted.
-fn answer(plan: &[u8], s: State, slab: &mut [u64], out: &mut [u64], member: u64, q: Request) -> Progress
+fn answer(
+    plan: &[u8],
+    s: State,
+    slab: &mut [u64],
+    out: &mut [u64],
+    member: u64,
+    q: Request,
+) -> Progress
     requires { ⌜ Runs (now plan) × Stands (now plan) s (now slab) × FitsRequest q × (7 * (1 + members (now plan) + members (now plan)) ≤ length (now out)) ⌝ }
     ensures { λ r. ⌜ Leaves (answered (netIn (now (plan .entry))) (sessionOf s (now (slab .entry))) member q (refusalOf (netIn (now (plan .entry))) (sessionOf s (now (slab .entry))) member q)) r (now (slab .exit)) (now (out .exit)) (now (slab .entry)) (now (out .entry)) ⌝ }
 {
@@ -147,7 +161,14 @@ fn over(s: State, out: &mut [u64], member: u64) -> Progress
 }
 
 // A request: what it does to the session, and what is sent.
-pub fn step(plan: &[u8], s: State, slab: &mut [u64], out: &mut [u64], member: u64, q: Request) -> Progress
+pub fn step(
+    plan: &[u8],
+    s: State,
+    slab: &mut [u64],
+    out: &mut [u64],
+    member: u64,
+    q: Request,
+) -> Progress
     requires { ⌜ Runs (now plan) × Stands (now plan) s (now slab) × FitsRequest q × (7 * (1 + members (now plan) + members (now plan)) ≤ length (now out)) ⌝ }
     ensures { λ r. ⌜ Leaves (stepOf (netIn (now (plan .entry))) (sessionOf s (now (slab .entry))) member q) r (now (slab .exit)) (now (out .exit)) (now (slab .entry)) (now (out .entry)) ⌝ }
 {

@@ -37,7 +37,7 @@ read-requires c κs = search needs
 
 -- src/lib.rt:132:10
 step-requires : tie.Need-step-requires
-step-requires c κs = 
+step-requires c κs =
     let f = request-free _ _ _ _ _ (sym (c .before .before .before .before .request-refusal .ensures) ∙ c .before .before .before .if1 .left) in
     let z = abort-free _ _ _ _ (f .0) in
     (runs-of _ (λ i. c .before .before .before .before .before .before .before .before .before .shared-slice-known .given i .fits) (z .0), z .1, rw (c .before .before .read .ensures) (asked-fits _ (λ k. omega (arith, c .before .before .before .before .before .before .before .shared-slice-known2 .given k)) (f .1)), omega (arith, z .2))

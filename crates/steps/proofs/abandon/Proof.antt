@@ -34,7 +34,7 @@ same-length c = search needs
 
 -- src/lib.rt:171:1
 returns : tie.Need-returns
-returns c = 
+returns c =
     let s = c .before .before .before .before .before .before .before .before .before .before in
     abandon-leaves _ (s .pre .0) (s .args .s) _ (s .pre .1) (typed (s .args .s) _ (s .good .1 .0)) _ _ _ _ _ _ (c .before .before .before .before .before .before .aborted .ensures) (c .before .before .before .members .ensures) (rw (c .before .before .before .before .code-said .ensures) at (c .before .before .fail-all .ensures))
 

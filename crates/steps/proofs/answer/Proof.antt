@@ -21,7 +21,7 @@ refusal-requires c κs = search needs
 
 -- src/lib.rt:125:9
 accept-requires : tie.Need-accept-requires
-accept-requires c κs = 
+accept-requires c κs =
     let s = c .before .before .before .before .before .before .before .before in
     let free = sym (c .before .before .before .refusal .ensures) ∙ c .before .before .if1 .taken in
     (s .pre .0, s .pre .1, omega (arith, member-known _ _ (s .args .member) (s .args .q) free, net-count (s .args .plan .now)), free, s .pre .2, s .pre .3)

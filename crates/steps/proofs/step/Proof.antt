@@ -24,7 +24,7 @@ same-length c = search needs
 -- src/lib.rt:155:9
 returns : tie.Need-returns
 unfolding step sessionOf
-returns c = 
+returns c =
     let s = c .before .before .before .before .before .before .before .before .before in
     rw (lt-ltb _ _ (c .before .before .before .before .if1 .taken)) (over-leaves _ (s .pre .0) (s .args .s) _ (s .pre .1) (typed (s .args .s) _ (s .good .1 .0)) _ _ _ _ (c .before .before .over .ensures))
 
