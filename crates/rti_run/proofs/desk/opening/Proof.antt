@@ -1,0 +1,35 @@
+use mathlib.Core.Path.{sym}
+use native.Mathlib.Omega.{arith}
+use lib.Seq.{length-take-le}
+use borrow.Author.Needs.{needs}
+use Rattle.rti_run.proofs.desk.opening.Statement.{statement}
+use Rattle.rti_run.proofs.desk.opening.Tie as tie
+
+least-requires : tie.Need-least-requires
+least-requires c κs = search needs
+
+slice-relend-prefix-open : tie.Need-slice-relend-prefix-open
+slice-relend-prefix-open c = search needs
+
+slice-aggregate-open : tie.Need-slice-aggregate-open
+slice-aggregate-open c = sym (length-take-le _ _ (omega arith))
+
+open-requires : tie.Need-open-requires
+open-requires c κs = search needs
+
+same-length : tie.Need-same-length
+same-length c = search needs
+
+returns : tie.Need-returns
+returns c = search needs
+
+pub opening-spec : {M : Type 1} → statement M
+opening-spec =
+    tie.close
+    (tie.spec
+    least-requires
+    slice-relend-prefix-open
+    slice-aggregate-open
+    open-requires
+    same-length
+    returns)
