@@ -1,11 +1,13 @@
 // Refusals 20 to 32, which end a session, as tables: each alone, and with those after it that can apply to the same request.
 use crate::desk::ABORT;
+use crate::desk::CAUSE;
 use crate::desk::COMPLETE;
 use crate::desk::CONFIRM;
 use crate::desk::Desk;
 use crate::desk::FINITE;
 use crate::desk::FOREVER;
 use crate::desk::HELLO;
+use crate::desk::IDLE;
 use crate::desk::NEVER;
 use crate::desk::NONE;
 use crate::desk::NOTE;
@@ -288,8 +290,8 @@ pub fn prompt(i: Image, d: Desk) -> Desk {
     on(b"28 without delay", i, d, &PROMPT)
 }
 
-// 28 before 29: both idle, the target stopped, the target past the tag; 29 and 30.
-const TARGETS: [[u64; 7]; 31] = [
+// 28 before 29: both idle, the target stopped, the target past the tag. 29: the target past the tag, idle, stopped.
+const TARGETS: [[u64; 7]; 25] = [
     [0, NOTE, 28, 0, 0, 0, 29],
     [0, REST, 5, 0, 0, 0, 0],
     [0, PAYLOAD, 0, FINITE, 10, 0, 77],
@@ -308,6 +310,21 @@ const TARGETS: [[u64; 7]; 31] = [
     [1, COMPLETE, 0, FINITE, 14, 0, 0],
     [0, PAYLOAD, 0, FINITE, 15, 0, 77],
     [0, PAYLOAD, 0, FINITE, 14, 0, 77],
+    [0, START, 5, 0, 0, 0, 0],
+    [0, PUBLISH, 1, FINITE, 0, 0, 0],
+    [1, IDLE, 0, 0, 0, 0, 0],
+    [0, PAYLOAD, 0, FINITE, 10, 0, 77],
+    [0, CAUSE, 0, 0, 0, 0, 0],
+    [1, IDLE, 1, 0, 0, 0, 0],
+    [0, PAYLOAD, 0, FINITE, 10, 0, 77],
+];
+
+pub fn targets(i: Image, d: Desk) -> Desk {
+    on(b"28 and 29", i, d, &TARGETS)
+}
+
+// 29 before 30, and 30: the target holds another tag, as many as it may; its own may come again.
+const FULL: [[u64; 7]; 13] = [
     [0, NOTE, 29, 0, 0, 0, 30],
     [0, START, 5, 0, 0, 0, 0],
     [0, PUBLISH, 1, FINITE, 5, 0, 0],
@@ -323,8 +340,8 @@ const TARGETS: [[u64; 7]; 31] = [
     [0, PAYLOAD, 0, FINITE, 21, 0, 77],
 ];
 
-pub fn targets(i: Image, d: Desk) -> Desk {
-    on(b"28 to 30", i, d, &TARGETS)
+pub fn full(i: Image, d: Desk) -> Desk {
+    on(b"29 and 30", i, d, &FULL)
 }
 
 // 31: unpublished, another revision, an event, an older revision while idle. 32: running.

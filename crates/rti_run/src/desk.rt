@@ -4,6 +4,10 @@ ghost use Prim.Native.Nat.{_+_, _*_, _≤_};
 ghost use lib.ListN.{length};
 use libc::STDOUT_FILENO;
 use rti::Answer;
+use states::Limit;
+use states::Mark;
+use states::MemberState;
+use states::Publication;
 use states::State;
 
 // Slab words: 64 for each of two members, and two more. Delivery words: seven for each of five deliveries, and five more.
@@ -69,6 +73,9 @@ pub const WORD: u64 = 1008;
 pub const COUNT: u64 = 1009;
 
 pub const CAUSE: u64 = 1010;
+
+// A member that has joined and is idle at revision 1, and no more; a number of 1: it has stopped too.
+pub const IDLE: u64 = 1011;
 
 // The state, the slab, and how many words are lent of the slab, of deliveries and of a request.
 pub struct Desk {
@@ -421,6 +428,38 @@ fn cause(d: Desk, n: u64, code: u64) -> Desk {
     change(d, s)
 }
 
+// The record of a member that has joined and is idle at revision 1.
+fn resting(stopped: bool) -> MemberState {
+    MemberState {
+        joined: true,
+        publication: Publication::Unpublished,
+        revision: Mark::Unset,
+        granted: Limit::Absent,
+        bound: Limit::Absent,
+        completed: Limit::Absent,
+        held: 0,
+        asked: Mark::Unset,
+        idle: Mark::At(1),
+        stopped: stopped,
+    }
+}
+
+// Puts such a record in place.
+fn settle(d: Desk, member: u64, stopped: u64) -> Desk {
+    text(b"member");
+    item(member);
+    text(b" 1 0 0 3 0 0 0 0 3 0 0 3 0 0 3 0 0 0 0 1 1");
+    item(stopped);
+    text(b" 0\n  member\n");
+    let mut s = d.state;
+    let i = member as usize;
+    if i < 32 {
+        s.members[i] = resting(stopped == 1);
+    }
+    let slab = d.slab;
+    with(d, s, slab)
+}
+
 // Does what a row says.
 fn turn(plan: &[u8], d: Desk, w: [u64; 7]) -> Desk {
     match w[1] {
@@ -438,6 +477,7 @@ fn turn(plan: &[u8], d: Desk, w: [u64; 7]) -> Desk {
         WORD => put(d, w[2], w[6]),
         COUNT => count(d, w[2]),
         CAUSE => cause(d, w[2], w[6]),
+        IDLE => settle(d, w[0], w[2]),
         _ => request(plan, d, w),
     }
 }

@@ -48,7 +48,8 @@ fn failed(p: Image, desk: Desk) -> Desk {
     let d = causes::ring(plan::ring(), c);
     let e = causes::prompt(plan::pair(0), d);
     let f = causes::targets(p, e);
-    causes::quiet(p, f)
+    let g = causes::full(p, f);
+    causes::quiet(p, g)
 }
 
 fn main() {

@@ -48,18 +48,22 @@ pub fn aborted(i: Image, d: Desk) -> Desk {
     on(b"A session that has ended", i, d, &ABORTED)
 }
 
-// 11: an opening, a request and the owner's abort.
-const VERSION: [[u64; 7]; 3] = [
+// An opening, a request and the owner's abort.
+const CALLS: [[u64; 7]; 3] = [
     [0, OPEN, 6, 0, 0, 0, 0],
     [0, COMPLETE, 0, FINITE, 0, 0, 0],
     [0, OWNER, 1, 0, 0, 0, 0],
 ];
 
 pub fn altered(i: Image, d: Desk) -> Desk {
-    on(b"11", i, d, &VERSION)
+    on(b"11", i, d, &CALLS)
 }
 
-// 12: the same, then with too few slab words.
+pub fn altered_beyond(i: Image, d: Desk) -> Desk {
+    on(b"11 before 12", i, d, &CALLS)
+}
+
+// 12: the same calls, then with too few slab words.
 const FAR: [[u64; 7]; 13] = [
     [0, OPEN, 6, 0, 0, 0, 0],
     [0, COMPLETE, 0, FINITE, 0, 0, 0],
@@ -265,7 +269,7 @@ pub fn all(p: Image, desk: Desk) -> Desk {
     let a = altered(plan::damaged(p, 0, 2), desk);
     let b = altered(plan::damaged(p, 176, 11), a);
     let c = altered(plan::shorter(p), b);
-    let d = altered(plan::damaged(beyond, 184, 2), c);
+    let d = altered_beyond(plan::damaged(beyond, 184, 2), c);
     let e = far(beyond, d);
     unused(p, malformed(p, short(p, e)))
 }
