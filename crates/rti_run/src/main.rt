@@ -1,5 +1,5 @@
-// Sessions at work, by open, handle, abort and finished alone. Each call stands as a line of a script; below it, two spaces in, what is
-// answered and what it leaves.
+// Sessions at work, by open, handle, abort and finished alone. Each call stands as a line of a script; below it, two spaces in, what
+// is answered and what it leaves.
 mod cases;
 mod causes;
 mod desk;

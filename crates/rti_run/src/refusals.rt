@@ -153,7 +153,8 @@ pub fn malformed(i: Image, d: Desk) -> Desk {
     on(b"15 before 16", i, d, &MALFORMED)
 }
 
-// 16: an unused word not as said, class 3 in Complete and Payload. Then 16 before 17, and 17, which stands before all that ends a session.
+// 16: an unused word not as said, class 3 in Complete and Payload. Then 16 before 17, and 17, which stands before all that ends a
+// session.
 const UNUSED: [[u64; 7]; 26] = [
     [0, HELLO, 5, FINITE, 0, 0, 0],
     [0, HELLO, 5, NONE, 0, 0, 1],
