@@ -8,6 +8,7 @@ pub mod Turns
 pub mod Rules
 pub mod Determined
 pub mod Answers
+pub mod Malformed
 pub mod Nets
 pub mod Compiled
 pub mod Analysis

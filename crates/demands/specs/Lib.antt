@@ -9,4 +9,5 @@ pub mod Samples
 pub mod Shams
 pub mod Marked
 pub mod Words
+pub mod Entries
 pub mod Demands
