@@ -18,5 +18,6 @@ pub mod Marked
 pub mod Words
 pub mod Demands
 pub mod Recognised
+pub mod Entries
 pub mod Whole
 pub mod Compiles

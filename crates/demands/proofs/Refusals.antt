@@ -27,11 +27,11 @@ once n k here here = refl
 once n k (later f) (later g) = once n k f g
 
 -- the first, found by going along the list
-unfoldable decide : List Ground → ℕ
+unfoldable pub decide : List Ground → ℕ
 decide [] = 0
 decide (ground n b ∷ gs) = pick b n (decide gs)
 
-found : (gs : List Ground) → First gs (decide gs)
+pub found : (gs : List Ground) → First gs (decide gs)
 unfolding decide
 found [] = nothing
 found (ground n true ∷ gs) = here

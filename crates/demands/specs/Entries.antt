@@ -97,9 +97,9 @@ pub record Aborts (b : List ℕ) (s : State) (slab : List ℕ) (code : ℕ) (wor
   pub going : First (abortGrounds b s slab words) 0 → s .cause ≡ 0 → Sends (toAll (λ k. Failed k 20 code) (members b)) (endedState s 20 code) slab words o
   pub over : First (abortGrounds b s slab words) 0 → 0 < s .cause → Sends (toAll (λ k. Failed k (s .cause) (codeSaid s)) (members b)) s slab words o
 
--- who asks, and what, in words that are not malformed
+-- who asks, the first word, and what, in words that are not malformed
 abbrev pub asker : List ℕ → ℕ
-asker request = askedBy request .member
+asker request = getD request 0 0
 
 abbrev pub asking : List ℕ → Request
 asking request = askedBy request .request
@@ -112,7 +112,7 @@ pub record Handles (b : List ℕ) (s : State) (slab request words : List ℕ) (o
   -- They number at most 2n+1.
   pub few : o .answer .count ≤ 2 * members b + 1
   -- An ended session answers any request with one Failed to the member word given, known or not.
-  pub over : First (requestGrounds b s slab request words) 0 → 0 < s .cause → Sends (Failed (getD request 0 0) (s .cause) (codeSaid s) ∷ []) s slab words o
+  pub over : First (requestGrounds b s slab request words) 0 → 0 < s .cause → Sends (Failed (asker request) (s .cause) (codeSaid s) ∷ []) s slab words o
   -- Otherwise the first of 20 to 32 that applies ends it: the cause is set, Failed goes to every member, ascending, and every
   -- record and every slab word is as it was.
   pub ends : First (requestGrounds b s slab request words) 0 → s .cause ≡ 0 → (n : ℕ) → 0 < n → First (grounds (netIn b) (sessionOf s slab) (asker request) (asking request)) n
