@@ -19,5 +19,6 @@ pub mod Words
 pub mod Demands
 pub mod Recognised
 pub mod Entries
+pub mod One
 pub mod Whole
 pub mod Compiles
