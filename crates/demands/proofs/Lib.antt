@@ -20,5 +20,6 @@ pub mod Demands
 pub mod Recognised
 pub mod Entries
 pub mod One
+pub mod Calls
 pub mod Whole
 pub mod Compiles

@@ -10,4 +10,5 @@ pub mod Shams
 pub mod Marked
 pub mod Words
 pub mod Entries
+pub mod Calls
 pub mod Demands
