@@ -5,6 +5,13 @@ use native.Mathlib.Omega.{arith}
 use mathlib.Core.Path.{_≡_, refl, sym, ap, ap₂, subst, _∙_}
 use mathlib.Core.List.{List}
 use lib.ListN.{length, getD}
+use Rattle.tags.specs.Tags.{tagLe, tagBefore, sameTag, leastOf, greatestOf, predOf, lessOf, delayOf, wordsOf, toldBy}
+use Rattle.plans.specs.declared.Plan.{Plan}
+use Rattle.plans.specs.Reading.{readingOf}
+use Rattle.routes.specs.Closed.{accepts}
+use Rattle.image.specs.declared.Compiled.{Compiled}
+use Rattle.image.specs.Compiling.{outcomeOf, compiledOf, Outcome as Compiles}
+use Rattle.recognised.specs.Recognised.{refusalIn}
 use Rattle.states.specs.declared.State.{State}
 use Rattle.states.specs.declared.Delivery.{Delivery}
 use Rattle.states.specs.Steps.{Out}
@@ -12,11 +19,12 @@ use Rattle.rows.specs.Nets.{netIn}
 use Rattle.requests.specs.Asking.{askedBy}
 use Rattle.members.specs.Codes.{sessionOf, stateOf, slabOf}
 use Rattle.rti.specs.declared.Answer.{Answer}
-use Rattle.rti.specs.Entries.{openRefusal, abortRefusal, requestRefusal, Outcome}
-use Rattle.demands.specs.Determined.{Determined}
+use Rattle.rti.specs.Entries.{openRefusal, abortRefusal, requestRefusal, Outcome, finishedState}
+use Rattle.demands.specs.Determined.{Determined, Entries}
 use Rattle.demands.specs.Refusals.{First}
 use Rattle.demands.specs.Answers.{Answer as Answers}
 use Rattle.demands.specs.Entries.{asker, asking, openGrounds, abortGrounds, requestGrounds, Untouched, Sends, Opens, Aborts, Handles}
+use Rattle.demands.proofs.Determined.{equated}
 use Rattle.demands.proofs.Answers.{one-answer}
 use Rattle.demands.proofs.Entries.{open-first, abort-first, request-first}
 
@@ -61,3 +69,32 @@ one-handling b s slab request words o r h k = go (requestRefusal b s slab (lengt
         let y = k .taken f in
         alike (x .0) (y .0) (one-answer (netIn b) (sessionOf s slab) (asker request) (asking request) (x .0) (y .0) (x .1) (y .1)) (x .2) (y .2)
     go (suc n) f = untouched-one _ _ _ _ o r (h .refused (suc n) (omega arith) f) (k .refused (suc n) (omega arith) f)
+
+-- ---- each entry's contract
+written-one : (p : Plan) (answer : Compiled) (out : List ℕ) → Determined (λ (z : Compiled × List ℕ). Compiles answer p out (z .1) (z .0))
+written-one p answer out x y h k = ap₂ (λ (c : Compiled) (l : List ℕ). (c, l)) (h .says ∙ sym (k .says)) (h .leaves ∙ sym (k .leaves))
+
+pub determined : Entries
+determined =
+    record {
+      opening = λ plan identity slab x y h k. ap (λ (o : Outcome). (o .answer, o .slab)) (h ∙ sym k);
+      handling = λ plan s slab request words x y h k. ap (λ (o : Outcome). (o .answer, o .slab, o .words)) (h ∙ sym k);
+      aborting = λ plan s slab code words x y h k. ap (λ (o : Outcome). (o .answer, o .words)) (h ∙ sym k);
+      finishing = λ s. equated (finishedState s);
+      reading = λ bytes. equated (readingOf bytes);
+      compiling = λ plan out. written-one (readingOf plan .plan) (compiledOf plan (length out)) out;
+      compiling-plan = λ p out. written-one p (outcomeOf p (length out)) out;
+      recognising = λ bytes. equated (refusalIn bytes);
+      checking = λ bytes walk. equated (accepts bytes walk);
+      asking = λ words. equated (askedBy words);
+      delay = λ t d. equated (delayOf t d);
+      predecessor = λ t. equated (predOf t);
+      subtract = λ t d. equated (lessOf t d);
+      at-or-before = λ t u. equated (tagLe t u);
+      before = λ t u. equated (tagBefore t u);
+      equal = λ t u. equated (sameTag t u);
+      least = λ t u. equated (leastOf t u);
+      greatest = λ t u. equated (greatestOf t u);
+      words = λ t. equated (wordsOf t);
+      told = λ class offset microstep. equated (toldBy class offset microstep);
+    }
