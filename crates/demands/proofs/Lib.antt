@@ -23,3 +23,4 @@ pub mod One
 pub mod Calls
 pub mod Whole
 pub mod Compiles
+pub mod Certain

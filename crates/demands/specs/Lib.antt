@@ -12,3 +12,4 @@ pub mod Words
 pub mod Entries
 pub mod Calls
 pub mod Demands
+pub mod Certain
