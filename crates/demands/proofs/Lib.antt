@@ -14,6 +14,7 @@ pub mod Compiled
 pub mod Analysis
 pub mod Samples
 pub mod Shams
+pub mod Talk
 pub mod Marked
 pub mod Words
 pub mod Demands

@@ -7,6 +7,7 @@ pub mod Nets
 pub mod Analysis
 pub mod Samples
 pub mod Shams
+pub mod Talk
 pub mod Marked
 pub mod Words
 pub mod Entries

@@ -4,6 +4,7 @@ use Prim.Native.Nat.{ℕ}
 use mathlib.Core.Path.{_≡_}
 use mathlib.Core.Bool.{true}
 use mathlib.Core.List.{List, [], _∷_, _++_}
+use lib.ListN.{drop, replicate}
 use Rattle.tags.specs.declared.Tag.the-variants.{Never, Finite}
 use Rattle.tags.specs.Tags.{top, lessOf}
 use Rattle.plans.specs.declared.Plan.{Plan}
@@ -13,6 +14,8 @@ use Rattle.delays.specs.Refusals.{accepted, zeroCycle, tooFar, refusalOf}
 use Rattle.image.specs.Image.{words, imageOf}
 use Rattle.states.specs.Sessions.{fresh}
 use Rattle.states.specs.Steps.{finished}
+use Rattle.rti.specs.Entries.{opened, finishedState}
+use Rattle.demands.specs.Talk.{Host, leftBy, talk, after-talk, requests, replies}
 use Rattle.demands.specs.Samples.{places, planP, P, case, answers, after-all, deliveries}
 
 -- n members with ids 10, 20, 30, and m edges
@@ -57,6 +60,10 @@ imageP =
     ++ (words (0 ∷ 0 ∷ []) ++ (bytes 8 10
     ++ words (1 ∷ []))))))))))))
 
+-- a host that has opened P with identity 5, on a slab of 130 words
+unfoldable pub hostP : Host
+hostP = leftBy (opened imageP 5 (replicate 130 9))
+
 pub record Marked : Type 0 where
   -- (10,3) less 0, 10, 11: (10,3), (0,M), NEVER.
   pub less-0 : lessOf (Finite 10 3) 0 ≡ Finite 10 3
@@ -77,3 +84,7 @@ pub record Marked : Type 0 where
   -- P's session by steps, every delivery; then finished
   pub session : answers P (fresh 2 5) case ≡ deliveries
   pub ended : finished P (after-all P (fresh 2 5) case) ≡ true
+  -- P's session by words, on P's bytes: what each call is told, none refused; then finished, and the slab's tail as it was
+  pub words : talk imageP (replicate 35 8) hostP requests ≡ replies
+  pub finished : finishedState (after-talk imageP (replicate 35 8) hostP requests .state) ≡ true
+  pub tail : drop 128 (after-talk imageP (replicate 35 8) hostP requests .slab) ≡ 9 ∷ 9 ∷ []
