@@ -70,7 +70,7 @@ late r false far true e l = omega arith
 late r false true false e l = omega arith
 late r false false false e l = absurd (omega arith)
 
-judged-number : (r : ℕ) (o : Out) (s : State) (slab words : List ℕ) → judged r o s slab words .answer .refusal ≡ r
+pub judged-number : (r : ℕ) (o : Out) (s : State) (slab words : List ℕ) → judged r o s slab words .answer .refusal ≡ r
 unfolding judged shown
 judged-number zero o s slab words = refl
 judged-number (suc r) o s slab words = refl
@@ -95,7 +95,7 @@ module _ (b : List ℕ) (s : State) (slab : List ℕ) (free : openRefusal b (len
       or-none false = refl
 
 -- ---- histories by steps
-bounded-in : (b : List ℕ) → Image b → Bounded (netIn b)
+pub bounded-in : (b : List ℕ) → Image b → Bounded (netIn b)
 unfolding netIn
 bounded-in b I = record { few = I .few; small = I .small }
 

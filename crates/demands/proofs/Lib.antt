@@ -25,3 +25,4 @@ pub mod Calls
 pub mod Whole
 pub mod Compiles
 pub mod Certain
+pub mod Builds

@@ -14,3 +14,4 @@ pub mod Entries
 pub mod Calls
 pub mod Demands
 pub mod Certain
+pub mod Builds
