@@ -60,8 +60,8 @@ use Rattle.passes.specs.Ties.{allWords}
 use Rattle.rti.specs.Entries.{Outcome, openRefusal, abortRefusal, requestRefusal, shown, judged, opened as openedBy, handled}
 use Rattle.passes.specs.Pages.{stoppedAt}
 use Rattle.demands.specs.Talk.{Host, leftBy, seven}
-use Rattle.demands.specs.Shams.{grantsOnce}
-use Rattle.demands.specs.Builds.{Handle, Right, HistoryBy, opened, asked, Moving, Refusing, Fixed, Idle, Counting, once, after as after-all}
+use Rattle.demands.specs.Shams.{refusing, grantsOnce}
+use Rattle.demands.specs.Builds.{Handle, Right, HistoryBy, opened, asked, Moving, Refusing, Fixed, Idle, Counting, carrying, failing, once, after as after-all}
 
 
 -- ---- P's case up to 0.Publish 2 none
@@ -105,7 +105,7 @@ record Facts : Type 0 where
   missing : by once (sofar handled) seventh .answer .count ≡ 0
 
 facts : Facts
-unfolding sofar hostP after-all sixth seven once grantsOnce openedBy handled requestRefusal abortRefusal openRefusal shown judged refusalIn longer isImage taken same ascending every planIn padded listed imageP number numberAt imageOf image.memberTable image.edgeTable image.directTable image.transitiveTable image.downstreamTable image.headerOf image.directCount image.transitiveCount image.downstreamCount image.targetRow image.sourceRow image.edgeRow image.memberRow image.upTo image.firstOf image.gathered laid bytes directSources transitiveSources downstream reached passing sourced direct cost via next plus first maskOf firstLoop linkedBy componentOf cycleOf farTarget farSource farOf orElse delays·judged refusalOf rows.field netIn directIn minimumIn routesFrom delayOf net.downstream leastTo earliest over past arrivals completions horizon due boundOf useful each toAll step.every any phaseOf lifecycle badPublication badCompletion badPayload badTarget holds payloadRefusal kindRefusal step.refusalOf insert after publishing effect visit grantBelow grants atRest idles bounds welcome accepted answered step.step askedBy judgedBy formOf publishOf completeOf payloadOf numberlessOf spokenBy asking.farOf wordsOf allWords replaced part sessionOf stateOf slabOf laysOf membersFrom formed formedAt formedRecord limited orderly isBlank bare unmarked blankAt whole.every words.lay words.tagsOf words.blank words.formedStretch tags.ascending
+unfolding sofar hostP after-all sixth seven carrying grantsOnce openedBy handled requestRefusal abortRefusal openRefusal shown judged refusalIn longer isImage taken same ascending every planIn padded listed imageP number numberAt imageOf image.memberTable image.edgeTable image.directTable image.transitiveTable image.downstreamTable image.headerOf image.directCount image.transitiveCount image.downstreamCount image.targetRow image.sourceRow image.edgeRow image.memberRow image.upTo image.firstOf image.gathered laid bytes directSources transitiveSources downstream reached passing sourced direct cost via next plus first maskOf firstLoop linkedBy componentOf cycleOf farTarget farSource farOf orElse delays·judged refusalOf rows.field netIn directIn minimumIn routesFrom delayOf net.downstream leastTo earliest over past arrivals completions horizon due boundOf useful each toAll step.every any phaseOf lifecycle badPublication badCompletion badPayload badTarget holds payloadRefusal kindRefusal step.refusalOf insert after publishing effect visit grantBelow grants atRest idles bounds welcome accepted answered step.step askedBy judgedBy formOf publishOf completeOf payloadOf numberlessOf spokenBy asking.farOf wordsOf allWords replaced part sessionOf stateOf slabOf laysOf membersFrom formed formedAt formedRecord limited orderly isBlank bare unmarked blankAt whole.every words.lay words.tagsOf words.blank words.formedStretch tags.ascending
 facts = record { taken = refl; none = refl; two = refl; apart = refl; joins = refl; grant = refl; missing = refl }
 
 P-opens : openedBy imageP 5 (replicate 130 9) .answer .refusal ≡ 0
@@ -131,6 +131,13 @@ counting-falls k f h r =
     let count : Outcome → ℕ = λ x. x .answer .count in
     omega (arith, ap count (r imageP (hostP .state) (hostP .slab) hello buffer), h imageP (hostP .state) (hostP .slab) hello buffer, facts .none,
       ap count (r imageP (first-left .state) (first-left .slab) hello-next buffer), h imageP (first-left .state) (first-left .slab) hello-next buffer, facts .two)
+
+failed : (n : ℕ) → by (failing n) hostP hello .answer .count ≡ 2
+unfolding refusing hostP after-all sixth seven carrying grantsOnce openedBy handled requestRefusal abortRefusal openRefusal shown judged refusalIn longer isImage taken same ascending every planIn padded listed imageP number numberAt imageOf image.memberTable image.edgeTable image.directTable image.transitiveTable image.downstreamTable image.headerOf image.directCount image.transitiveCount image.downstreamCount image.targetRow image.sourceRow image.edgeRow image.memberRow image.upTo image.firstOf image.gathered laid bytes directSources transitiveSources downstream reached passing sourced direct cost via next plus first maskOf firstLoop linkedBy componentOf cycleOf farTarget farSource farOf orElse delays·judged refusalOf rows.field netIn directIn minimumIn routesFrom delayOf net.downstream leastTo earliest over past arrivals completions horizon due boundOf useful each toAll step.every any phaseOf lifecycle badPublication badCompletion badPayload badTarget holds payloadRefusal kindRefusal step.refusalOf insert after publishing effect visit grantBelow grants atRest idles bounds welcome accepted answered step.step askedBy judgedBy formOf publishOf completeOf payloadOf numberlessOf spokenBy asking.farOf wordsOf allWords replaced part sessionOf stateOf slabOf laysOf membersFrom formed formedAt formedRecord limited orderly isBlank bare unmarked blankAt whole.every words.lay words.tagsOf words.blank words.formedStretch tags.ascending
+failed n = refl
+
+pub failing-falls : (n : ℕ) → Right (failing n) → ⊥
+failing-falls n r = omega (arith, ap (λ (x : Outcome). x .answer .count) (r imageP (hostP .state) (hostP .slab) hello buffer), facts .none, failed n)
 
 pub once-falls-to-2 : Right once → ⊥
 once-falls-to-2 r = let h = sofar handled in omega (arith, ap (λ (x : Outcome). x .answer .count) (r imageP (h .state) (h .slab) seventh buffer), facts .grant, facts .missing)
@@ -200,7 +207,7 @@ record Stuck : Type 0 where
   grantless : Answered (netIn imageP) (view (sessionOf (stuck .state) (stuck .slab))) 1 → Unset ≡ At 1
 
 is-stuck : Stuck
-unfolding sofar hostP after-all sixth seven once grantsOnce openedBy handled requestRefusal abortRefusal openRefusal shown judged refusalIn longer isImage taken same ascending every planIn padded listed imageP number numberAt imageOf image.memberTable image.edgeTable image.directTable image.transitiveTable image.downstreamTable image.headerOf image.directCount image.transitiveCount image.downstreamCount image.targetRow image.sourceRow image.edgeRow image.memberRow image.upTo image.firstOf image.gathered laid bytes directSources transitiveSources downstream reached passing sourced direct cost via next plus first maskOf firstLoop linkedBy componentOf cycleOf farTarget farSource farOf orElse delays·judged refusalOf rows.field netIn directIn minimumIn routesFrom delayOf net.downstream leastTo earliest over past arrivals completions horizon due boundOf useful each toAll step.every any phaseOf lifecycle badPublication badCompletion badPayload badTarget holds payloadRefusal kindRefusal step.refusalOf insert after publishing effect visit grantBelow grants atRest idles bounds welcome accepted answered step.step askedBy judgedBy formOf publishOf completeOf payloadOf numberlessOf spokenBy asking.farOf wordsOf allWords replaced part sessionOf stateOf slabOf laysOf membersFrom formed formedAt formedRecord limited orderly isBlank bare unmarked blankAt whole.every words.lay words.tagsOf words.blank words.formedStretch tags.ascending
+unfolding sofar hostP after-all sixth seven carrying grantsOnce openedBy handled requestRefusal abortRefusal openRefusal shown judged refusalIn longer isImage taken same ascending every planIn padded listed imageP number numberAt imageOf image.memberTable image.edgeTable image.directTable image.transitiveTable image.downstreamTable image.headerOf image.directCount image.transitiveCount image.downstreamCount image.targetRow image.sourceRow image.edgeRow image.memberRow image.upTo image.firstOf image.gathered laid bytes directSources transitiveSources downstream reached passing sourced direct cost via next plus first maskOf firstLoop linkedBy componentOf cycleOf farTarget farSource farOf orElse delays·judged refusalOf rows.field netIn directIn minimumIn routesFrom delayOf net.downstream leastTo earliest over past arrivals completions horizon due boundOf useful each toAll step.every any phaseOf lifecycle badPublication badCompletion badPayload badTarget holds payloadRefusal kindRefusal step.refusalOf insert after publishing effect visit grantBelow grants atRest idles bounds welcome accepted answered step.step askedBy judgedBy formOf publishOf completeOf payloadOf numberlessOf spokenBy asking.farOf wordsOf allWords replaced part sessionOf stateOf slabOf laysOf membersFrom formed formedAt formedRecord limited orderly isBlank bare unmarked blankAt whole.every words.lay words.tagsOf words.blank words.formedStretch tags.ascending
 is-stuck = record { inside = omega arith; grantless = λ h. h 1 (Finite 10 0) refl refl refl .0 }
 
 pub once-falls-to-3 : Moving once → ⊥

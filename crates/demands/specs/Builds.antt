@@ -13,7 +13,7 @@ use Rattle.requests.specs.Asking.{askedBy}
 use Rattle.members.specs.Codes.{sessionOf}
 use Rattle.rti.specs.Entries.{Outcome, requestRefusal, judged, opened as openedBy, handled}
 use Rattle.demands.specs.Histories.{Answered, Moves}
-use Rattle.demands.specs.Shams.{grantsOnce}
+use Rattle.demands.specs.Shams.{Build, refusing, grantsOnce}
 use Rattle.demands.specs.Talk.{Host, leftBy}
 
 -- what answers a request: from plan bytes, state, slab, request and delivery words
@@ -54,9 +54,16 @@ Idle f = (b : List ℕ) (s : State) (slab request words : List ℕ) → f b s sl
 abbrev pub Counting : ℕ → Handle → Type 0
 Counting k f = (b : List ℕ) (s : State) (slab request words : List ℕ) → f b s slab request words .answer .count ≡ k
 
--- one that grants on first publication only
-unfoldable pub once : Handle
-once b s slab request words = judged (requestRefusal b s slab (length words) request) (grantsOnce (netIn b) (sessionOf s slab) (askedBy request .member) (askedBy request .request)) s slab words
+-- a build of the session's step (`Shams`) in the place of 01's
+unfoldable pub carrying : Build → Handle
+carrying f b s slab request words = judged (requestRefusal b s slab (length words) request) (f (netIn b) (sessionOf s slab) (askedBy request .member) (askedBy request .request)) s slab words
+
+-- refusing always inside the session, with Failed to all; one that grants on first publication only
+abbrev pub failing : ℕ → Handle
+failing n = carrying (refusing n)
+
+abbrev pub once : Handle
+once = carrying grantsOnce
 
 -- what a host holds after requests to a build, each lent the buffer `words`
 unfoldable pub after : Handle → List ℕ → List ℕ → Host → List (List ℕ) → Host
