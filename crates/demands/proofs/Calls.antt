@@ -2,17 +2,16 @@
 -- Assumes nothing.
 use Prim.Native.Nat.{ℕ, zero, suc, _+_, _*_, _-_, _<_, _≤_}
 use native.Mathlib.Omega.{arith}
-use mathlib.Core.Path.{_≡_, refl, sym, ap, subst, _∙_}
+use mathlib.Core.Path.{_≡_, refl, sym, ap, _∙_}
 use mathlib.Core.Bool.{Bool, true, false}
 use mathlib.Core.List.{List, []}
 use lib.Dec.{ltb, eqb}
 use lib.ListN.{length, getD}
 use borrow.Author.Tests.{eqb-true, le-ltb}
-use Rattle.basis.specs.Choice.{pick, not, both, either}
+use Rattle.basis.specs.Choice.{pick, both, either}
 use Rattle.basis.proofs.Numbers.{Bytes}
 use Rattle.tags.specs.Tags.{top}
 use Rattle.plans.specs.Nets.{Net}
-use Rattle.transit.specs.Words.{stretch}
 use Rattle.transit.proofs.Lists.{both-true}
 use Rattle.states.specs.declared.State.{State}
 use Rattle.states.specs.Records.{freshState}
@@ -26,16 +25,16 @@ use Rattle.recognised.specs.Recognised.{refusalIn}
 use Rattle.recognised.proofs.Answers.{not-refused}
 use Rattle.requests.specs.Asking.{askedBy}
 use Rattle.requests.proofs.Heard.{asked-fits}
-use Rattle.members.specs.Codes.{sessionOf, stateOf, slabOf}
+use Rattle.members.specs.Codes.{sessionOf, slabOf}
 use Rattle.members.specs.Formed.{formed, formedAt, blankAt, every as everyOf}
 use Rattle.members.proofs.Codes.{view-at, slab-length}
 use Rattle.members.proofs.Nets.{net-count}
 use Rattle.passes.specs.Pages.{stoppedAt}
 use Rattle.kinds.proofs.Tests.{every-same}
-use Rattle.rti.specs.Entries.{openRefusal, abortRefusal, requestRefusal, Outcome, shown, judged, opened as openedBy, handled, aborted as abortedBy, finishedState}
+use Rattle.rti.specs.Entries.{openRefusal, abortRefusal, requestRefusal, shown, judged, opened as openedBy, handled, aborted as abortedBy, finishedState}
 use Rattle.rti.proofs.Refusals.{open-free, request-free}
 use Rattle.demands.specs.Histories.{Reached, opened as Reached·opened, asked as Reached·asked, aborted as Reached·aborted}
-use Rattle.demands.specs.Words.{Bounded, Held, opened as Held·opened, asked as Held·asked, aborted as Held·aborted, refused as Held·refused, Stands}
+use Rattle.demands.specs.Words.{Bounded, Held, opened as Held·opened, asked as Held·asked, aborted as Held·aborted}
 use Rattle.demands.specs.Entries.{malformed, beyond}
 use Rattle.demands.specs.Calls.{History, opened, asked, aborted, Kept}
 use Rattle.demands.proofs.Histories.{formed as sound}

@@ -2,13 +2,13 @@
 -- Assumes nothing.
 use Prim.Native.Nat.{ℕ, zero, suc, _+_, _*_, _<_, _≤_}
 use native.Mathlib.Omega.{arith}
-use mathlib.Core.Path.{_≡_, refl, sym, ap, ap₂, subst, _∙_}
+use mathlib.Core.Path.{_≡_, refl, sym, ap, _∙_}
 use mathlib.Core.Bool.{Bool, true, false}
 use mathlib.Core.List.{List, [], _∷_, _++_}
 use lib.Dec.{ltb, eqb}
-use lib.ListN.{length, getD, drop, replicate}
-use borrow.Author.Tests.{eqb-true, lt-ltb, le-ltb}
-use Rattle.basis.specs.Choice.{pick, not, both}
+use lib.ListN.{length, getD, drop}
+use borrow.Author.Tests.{lt-ltb, le-ltb}
+use Rattle.basis.specs.Choice.{pick, not}
 use Rattle.basis.specs.Parts.{replaced}
 use Rattle.states.specs.declared.State.{State}
 use Rattle.states.specs.declared.Request.{Request}
@@ -18,7 +18,6 @@ use Rattle.states.specs.Records.{freshState}
 use Rattle.states.specs.Sessions.{Session, fresh, withCause}
 use Rattle.states.specs.Steps.{Out, start, toAll, when, orElse, codeOf, codeGiven, refusalOf, answered, step, ended, abandon}
 use Rattle.states.proofs.Counts.{step-count}
-use Rattle.transit.proofs.Lists.{both-true}
 use Rattle.plans.specs.Nets.{Net}
 use Rattle.rows.specs.Rows.{members}
 use Rattle.rows.specs.Plans.{planIn}
@@ -35,11 +34,11 @@ use Rattle.members.proofs.Formed.{formed-state, formed-slab, formed-count}
 use Rattle.members.proofs.Nets.{net-count}
 use Rattle.passes.specs.Ties.{allWords}
 use Rattle.passes.proofs.Ties.{all-long}
-use Rattle.steps.specs.Steps.{endedState, codeSaid, Runs, Stands}
+use Rattle.steps.specs.Steps.{endedState, codeSaid}
 use Rattle.rti.specs.Entries.{openRefusal, abortRefusal, requestRefusal, Outcome, shown, judged, opened, handled, aborted}
 use Rattle.rti.proofs.Opening.{fresh-state, fresh-slab}
 use Rattle.rti.proofs.Refusals.{runs-of, open-free, abort-free, request-free}
-use Rattle.demands.specs.Refusals.{Ground, ground, First, grounds}
+use Rattle.demands.specs.Refusals.{First}
 use Rattle.demands.specs.Entries.{malformed, beyond, openGrounds, abortGrounds, requestGrounds, Untouched, Sends, Opens, Aborts, Handles}
 use Rattle.demands.proofs.Refusals.{once, decide, found, first-applies}
 use Rattle.demands.proofs.Answers.{answers}

@@ -11,7 +11,7 @@ use Rattle.image.specs.Image.{laid, imageOf}
 use Rattle.demands.specs.Samples.{places, planP}
 use Rattle.demands.specs.Marked.{plan, inARow, beside, lowered, selfLoop, imageP, Marked}
 use Rattle.demands.proofs.Samples.{whole-case, whole-case-finished}
-use Rattle.demands.proofs.Talk.{P-words, P-finished, P-tail}
+use Rattle.demands.proofs.Talk.{computed}
 
 P-bytes : imageOf planP ≡ imageP
 unfolding places planP imageP imageOf image.memberTable image.edgeTable image.directTable image.transitiveTable image.downstreamTable image.headerOf image.directCount image.transitiveCount image.downstreamCount image.targetRow image.sourceRow image.edgeRow image.memberRow image.upTo image.firstOf image.gathered laid numbers.bytes directSources transitiveSources downstream reached passing sourced direct cost via next plus
@@ -33,7 +33,7 @@ marked =
       bytes = P-bytes;
       session = whole-case;
       ended = whole-case-finished;
-      words = P-words;
-      finished = P-finished;
-      tail = P-tail;
+      words = computed .words;
+      finished = computed .finished;
+      tail = computed .tail;
     }

@@ -4,7 +4,7 @@ use Prim.Native.Nat.{ℕ, zero, suc}
 use native.Mathlib.Omega.{arith}
 use mathlib.Core.Path.{_≡_, refl, sym, ap, ap₂, subst, _∙_}
 use mathlib.Core.List.{List}
-use lib.ListN.{length, getD}
+use lib.ListN.{length}
 use Rattle.tags.specs.Tags.{tagLe, tagBefore, sameTag, leastOf, greatestOf, predOf, lessOf, delayOf, wordsOf, toldBy}
 use Rattle.plans.specs.declared.Plan.{Plan}
 use Rattle.plans.specs.Reading.{readingOf}
@@ -18,11 +18,9 @@ use Rattle.states.specs.Steps.{Out}
 use Rattle.rows.specs.Nets.{netIn}
 use Rattle.requests.specs.Asking.{askedBy}
 use Rattle.members.specs.Codes.{sessionOf, stateOf, slabOf}
-use Rattle.rti.specs.declared.Answer.{Answer}
 use Rattle.rti.specs.Entries.{openRefusal, abortRefusal, requestRefusal, Outcome, finishedState}
 use Rattle.demands.specs.Determined.{Determined, Entries}
 use Rattle.demands.specs.Refusals.{First}
-use Rattle.demands.specs.Answers.{Answer as Answers}
 use Rattle.demands.specs.Entries.{asker, asking, openGrounds, abortGrounds, requestGrounds, Untouched, Sends, Opens, Aborts, Handles}
 use Rattle.demands.proofs.Determined.{equated}
 use Rattle.demands.proofs.Answers.{one-answer}

@@ -19,7 +19,6 @@ use Rattle.rows.specs.Plans.{planIn}
 use Rattle.rows.specs.Nets.{netIn}
 use Rattle.recognised.specs.Recognised.{isImage, longer}
 use Rattle.requests.specs.Asking.{askedBy}
-use Rattle.requests.specs.Sending.{wordsOf}
 use Rattle.members.specs.Codes.{sessionOf, stateOf, slabOf}
 use Rattle.members.specs.Formed.{formed}
 use Rattle.passes.specs.Ties.{allWords}

@@ -9,9 +9,9 @@ pub mod Samples
 pub mod Shams
 pub mod Talk
 pub mod Marked
+pub mod Builds
 pub mod Words
+pub mod Demands
 pub mod Entries
 pub mod Calls
-pub mod Demands
 pub mod Certain
-pub mod Builds
