@@ -85,7 +85,9 @@ garbled-is i (suc (suc (suc (suc (suc zero))))) n x = refl
 garbled-is i (suc (suc (suc (suc (suc (suc zero)))))) zero x = refl
 garbled-is i (suc (suc (suc (suc (suc (suc zero)))))) (suc n) x = rw (other (suc n) 0 (omega arith)) refl
 garbled-is i (suc (suc (suc (suc (suc (suc (suc zero))))))) n x = refl
-garbled-is i (suc (suc (suc (suc (suc (suc (suc (suc k)))))))) n x = rw (other (suc (suc (suc (suc (suc (suc (suc (suc k)))))))) 1 (omega arith), other (suc (suc (suc (suc (suc (suc (suc (suc k)))))))) 2 (omega arith), other (suc (suc (suc (suc (suc (suc (suc (suc k)))))))) 3 (omega arith), other (suc (suc (suc (suc (suc (suc (suc (suc k)))))))) 4 (omega arith), other (suc (suc (suc (suc (suc (suc (suc (suc k)))))))) 5 (omega arith), other (suc (suc (suc (suc (suc (suc (suc (suc k)))))))) 6 (omega arith), other (suc (suc (suc (suc (suc (suc (suc (suc k)))))))) 7 (omega arith)) refl
+garbled-is i (suc (suc (suc (suc (suc (suc (suc (suc k)))))))) n x =
+    let h : ℕ = suc (suc (suc (suc (suc (suc (suc (suc k))))))) in
+    rw (other h 1 (omega arith), other h 2 (omega arith), other h 3 (omega arith), other h 4 (omega arith), other h 5 (omega arith), other h 6 (omega arith), other h 7 (omega arith)) refl
 
 nothing-is : (i k n x : ℕ) → judgedBy i (formOf k n Nothing x) .number ≡ pick (either (kindless k) (unsaid k n x true)) 16 0
 unfolding judgedBy formOf publishOf completeOf payloadOf numberlessOf farOf any among
@@ -105,7 +107,9 @@ nothing-is i (suc (suc (suc (suc (suc (suc zero)))))) zero (suc x) = rw (other (
 nothing-is i (suc (suc (suc (suc (suc (suc zero)))))) (suc n) x = rw (other (suc n) 0 (omega arith)) refl
 nothing-is i (suc (suc (suc (suc (suc (suc (suc zero))))))) n zero = refl
 nothing-is i (suc (suc (suc (suc (suc (suc (suc zero))))))) n (suc x) = rw (other (suc x) 0 (omega arith)) refl
-nothing-is i (suc (suc (suc (suc (suc (suc (suc (suc k)))))))) n x = rw (other (suc (suc (suc (suc (suc (suc (suc (suc k)))))))) 1 (omega arith), other (suc (suc (suc (suc (suc (suc (suc (suc k)))))))) 2 (omega arith), other (suc (suc (suc (suc (suc (suc (suc (suc k)))))))) 3 (omega arith), other (suc (suc (suc (suc (suc (suc (suc (suc k)))))))) 4 (omega arith), other (suc (suc (suc (suc (suc (suc (suc (suc k)))))))) 5 (omega arith), other (suc (suc (suc (suc (suc (suc (suc (suc k)))))))) 6 (omega arith), other (suc (suc (suc (suc (suc (suc (suc (suc k)))))))) 7 (omega arith)) refl
+nothing-is i (suc (suc (suc (suc (suc (suc (suc (suc k)))))))) n x =
+    let h : ℕ = suc (suc (suc (suc (suc (suc (suc (suc k))))))) in
+    rw (other h 1 (omega arith), other h 2 (omega arith), other h 3 (omega arith), other h 4 (omega arith), other h 5 (omega arith), other h 6 (omega arith), other h 7 (omega arith)) refl
 
 told : (i : ℕ) (q : Request) → judgedBy i (Asks q) .number ≡ pick (farOf q) 17 0
 unfolding judgedBy
@@ -133,7 +137,9 @@ tagged-is i (suc (suc (suc (suc (suc (suc zero)))))) zero (suc x) t = rw (other 
 tagged-is i (suc (suc (suc (suc (suc (suc zero)))))) (suc n) x t = rw (other (suc n) 0 (omega arith)) refl
 tagged-is i (suc (suc (suc (suc (suc (suc (suc zero))))))) n zero t = refl
 tagged-is i (suc (suc (suc (suc (suc (suc (suc zero))))))) n (suc x) t = rw (other (suc x) 0 (omega arith)) refl
-tagged-is i (suc (suc (suc (suc (suc (suc (suc (suc k)))))))) n x t = rw (other (suc (suc (suc (suc (suc (suc (suc (suc k)))))))) 1 (omega arith), other (suc (suc (suc (suc (suc (suc (suc (suc k)))))))) 2 (omega arith), other (suc (suc (suc (suc (suc (suc (suc (suc k)))))))) 3 (omega arith), other (suc (suc (suc (suc (suc (suc (suc (suc k)))))))) 4 (omega arith), other (suc (suc (suc (suc (suc (suc (suc (suc k)))))))) 5 (omega arith), other (suc (suc (suc (suc (suc (suc (suc (suc k)))))))) 6 (omega arith), other (suc (suc (suc (suc (suc (suc (suc (suc k)))))))) 7 (omega arith)) refl
+tagged-is i (suc (suc (suc (suc (suc (suc (suc (suc k)))))))) n x t =
+    let h : ℕ = suc (suc (suc (suc (suc (suc (suc (suc k))))))) in
+    rw (other h 1 (omega arith), other h 2 (omega arith), other h 3 (omega arith), other h 4 (omega arith), other h 5 (omega arith), other h 6 (omega arith), other h 7 (omega arith)) refl
 
 -- ---- all seven
 -- no tests before the k-th, then the rest
