@@ -1,2 +1,3 @@
 pub mod Counts
 pub mod Ties
+pub mod Turns

@@ -24,6 +24,7 @@ use Rattle.records.specs.Records.{plainly, grantedRecord, boundedRecord, rested
 use Rattle.members.specs.Codes.{AllHold}
 use Rattle.members.specs.Rules.{AllLow, tagsTo, earliestAt, completedAt, horizonIn, boundsIn}
 use Rattle.passes.specs.declared.Progress.{Progress}
+use Rattle.passes.specs.declared.Told.{Told}
 
 -- a step so far, and the words of the buffer
 pub record Page : Type 0 where
@@ -38,6 +39,13 @@ recordAt s j = getD (s .members) j blankRecord
 
 abbrev pub withRecord : State → ℕ → MemberState → State
 withRecord s i m = record { members = set (s .members) i m; count = s .count; identity = s .identity; cause = s .cause; code = s .code }
+
+abbrev pub at : State → ℕ → Progress
+at s k = record { state = s; sent = k }
+
+-- a member's turn stored
+abbrev pub storing : State → ℕ → Told → Progress
+storing s j r = at (withRecord s j (r .member)) (r .sent)
 
 -- one delivery more, in the seven words after those sent
 abbrev pub posting : Page → Delivery → Page

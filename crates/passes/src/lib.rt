@@ -7,7 +7,7 @@ ghost use Rattle.states.specs.Steps.{every};
 ghost use Rattle.rows.specs.Rows.{Laid, members, downstreams, downstreamFirst, downstreamCount};
 ghost use Rattle.rows.specs.Loops.{overRows, overAll};
 ghost use Rattle.members.specs.Rules.{Mild, AllLow};
-ghost use Rattle.passes.specs.Pages.{on, posting, telling, grantTo, grantAt, grantBy, grantsIn, settledIn, followIn, putting, Ready, resting, restAt, joinedAt, stoppedAt, idleTo, idleAt, boundTo, boundAt, startAt, failAt};
+ghost use Rattle.passes.specs.Pages.{on, at, storing, recordAt, posting, telling, grantTo, grantAt, grantBy, grantsIn, settledIn, followIn, putting, Ready, resting, restAt, joinedAt, stoppedAt, idleTo, idleAt, boundTo, boundAt, startAt, failAt};
 use states::Delivery;
 use states::MemberState;
 use states::State;
@@ -16,6 +16,12 @@ use tags::Tag;
 // A step so far: the state, and how many deliveries are sent.
 pub struct Progress {
     pub state: State,
+    pub sent: usize,
+}
+
+// One member's turn: its record, and how many deliveries are sent.
+pub struct Told {
+    pub member: MemberState,
     pub sent: usize,
 }
 
@@ -74,16 +80,23 @@ pub fn idle_to(p: Progress, out: &mut [u64], j: usize, m: MemberState) -> Progre
     p
 }
 
-// A bound to member j, if it is due.
-pub fn bound_to(p: Progress, out: &mut [u64], j: usize, m: MemberState, t: Tag) -> Progress
-    requires { ⌜ (j < 32) × (7 * p .sent + 7 ≤ length (now out)) ⌝ }
-    ensures { λ r. ⌜ on r (now (out .exit)) ≡ boundTo (on p (now (out .entry))) j m t ⌝ }
+// A bound to member j with record m, if it is due, after k deliveries.
+pub fn bound_to(m: MemberState, t: Tag, out: &mut [u64], k: usize, j: usize) -> Told
+    requires { ⌜ 7 * k + 7 ≤ length (now out) ⌝ }
+    ensures { λ r. ⌜ ((s : State) → recordAt s j ≡ m → on (storing s j r) (now (out .exit)) ≡ boundTo (on (at s k) (now (out .entry))) j m t) ⌝ }
 {
     if records::bound_due(m, t) {
         let next = records::bounded(m, t);
-        return tell(p, out, j, next, Delivery::Suppress(j as u64, t));
+        requests::send(out, k, Delivery::Suppress(j as u64, t));
+        return Told {
+            member: next,
+            sent: k + 1,
+        };
     }
-    p
+    Told {
+        member: m,
+        sent: k,
+    }
 }
 
 // The grant to member j, if it is due: `earliest` and `completed` are the tags of all members.
@@ -168,29 +181,27 @@ pub fn idle_all(p: Progress, out: &mut [u64], n: usize) -> Progress
     q
 }
 
-// A bound to member j, if it is due.
-pub fn bound_one(bounds: [Tag; 32], p: Progress, out: &mut [u64], j: usize) -> Progress
-    requires { ⌜ (j < 32) × (7 * p .sent + 7 ≤ length (now out)) ⌝ }
-    ensures { λ r. ⌜ on r (now (out .exit)) ≡ boundAt bounds (on p (now (out .entry))) j ⌝ }
-{
-    let state = p.state;
-    let m = state.members[j];
-    let t = bounds[j];
-    bound_to(p, out, j, m, t)
-}
-
 // A bound to each of n members to whom it is due, ascending.
 pub fn bound_all(bounds: [Tag; 32], p: Progress, out: &mut [u64], n: usize) -> Progress
     requires { ⌜ (n ≤ 32) × (7 * (p .sent + n) ≤ length (now out)) ⌝ }
     ensures { λ r. ⌜ on r (now (out .exit)) ≡ overAll (boundAt bounds) n (on p (now (out .entry))) ⌝ }
 {
-    let mut q = p;
+    let mut state = p.state;
+    let mut sent = p.sent;
     let mut j = 0;
     while j < n {
-        q = bound_one(bounds, q, out, j);
+        let m = state.members[j];
+        let t = bounds[j];
+        let told = bound_to(m, t, out, sent, j);
+        let next = told.member;
+        state.members[j] = next;
+        sent = told.sent;
         j += 1;
     }
-    q
+    Progress {
+        state: state,
+        sent: sent,
+    }
 }
 
 // Started to member k.

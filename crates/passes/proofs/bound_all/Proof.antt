@@ -1,5 +1,5 @@
 use Rattle.passes.proofs.Counts.{sentOf, over-all, over-rows, bound-single}
-use Rattle.passes.specs.Pages.{Page, on, boundAt}
+use Rattle.passes.specs.Pages.{Page, on, at, boundAt}
 use Rattle.rows.specs.Loops.{overAll, overRows}
 use mathlib.Core.Path.{_≡_, refl, sym, ap, _∙_}
 use lib.ListN.{length}
@@ -11,43 +11,67 @@ use Rattle.passes.proofs.bound_all.Statement.{statement}
 use Rattle.passes.proofs.bound_all.Tie as tie
 use Rattle.passes.proofs.bound_all.Reads as reads
 use Rattle.passes.proofs.bound_all.Lts as lts
-use Rattle.passes.proofs.bound_one.Reads as bound-one-reads
+use Rattle.passes.proofs.bound_to.Reads as bound-to-reads
 
 abbrev Inv-loop : tie.InvT-loop
-Inv-loop bounds out₀ n q₀ j₀ out q j = (j ≤ n) × (length out ≡ length out₀) × (on q out ≡ overAll (boundAt bounds) j (on q₀ out₀))
+Inv-loop out₀ n bounds state₀ sent₀ j₀ out state sent j = (j ≤ n) × (length out ≡ length out₀) × (on (at state sent) out ≡ overAll (boundAt bounds) j (on (at state₀ sent₀) out₀))
 
 abbrev μ-loop : tie.MeasureT-loop
-μ-loop bounds out₀ n q₀ j₀ out q j = n - j
+μ-loop out₀ n bounds state₀ sent₀ j₀ out state sent j = n - j
 
--- src/lib.rt:189:5
+-- src/lib.rt:192:5
 loop-holds : tie.Need-loop-holds Inv-loop μ-loop
 unfolding overAll
 loop-holds c = (omega arith, refl, refl)
 
--- src/lib.rt:190:9
-bound-one-requires : tie.Need-bound-one-requires Inv-loop μ-loop
-bound-one-requires c κs = let l = c .before .before .loop in let sent = over-all (boundAt (c .before .before .before .before .args .bounds)) (bound-single (c .before .before .before .before .args .bounds)) (l .j) (on (c .before .before .before .before .args .p) (c .before .before .before .before .args .out .now)) in let e = ap sentOf (l .inv .2) in (omega arith, omega arith)
+-- src/lib.rt:193:17
+mul-m : tie.Need-mul-m Inv-loop μ-loop
+mul-m c = search needs
 
--- src/lib.rt:191:9
+-- src/lib.rt:193:17
+element-copy-out-m : tie.Need-element-copy-out-m Inv-loop μ-loop
+element-copy-out-m c = search needs
+
+-- src/lib.rt:194:17
+mul-t : tie.Need-mul-t Inv-loop μ-loop
+mul-t c = search needs
+
+-- src/lib.rt:194:17
+array-copy-out-t : tie.Need-array-copy-out-t Inv-loop μ-loop
+array-copy-out-t c = search needs
+
+-- src/lib.rt:195:13
+bound-to-requires : tie.Need-bound-to-requires Inv-loop μ-loop
+bound-to-requires c κs = let l = c .before .before .before .before .loop in let a = c .before .before .before .before .before .before .before .args in let sent = over-all (boundAt (a .t1)) (bound-single (a .t1)) (l .j) (on (a .p) (a .out .now)) in let e = ap sentOf (l .inv .2) in omega arith
+
+-- src/lib.rt:197:9
+mul-next : tie.Need-mul-next Inv-loop μ-loop
+mul-next c = search needs
+
+-- src/lib.rt:197:9
+element-set-from-next : tie.Need-element-set-from-next Inv-loop μ-loop
+element-set-from-next c = search needs
+
+-- src/lib.rt:199:9
 add-j : tie.Need-add-j Inv-loop μ-loop
 add-j c = search needs
 
--- src/lib.rt:189:5
+-- src/lib.rt:192:5
 loop-less : tie.Need-loop-less Inv-loop μ-loop
 loop-less c = search needs
 
--- src/lib.rt:189:5
+-- src/lib.rt:192:5
 loop-again : tie.Need-loop-again Inv-loop μ-loop
-unfolding overAll
-loop-again c = (omega arith, omega arith, rw add-one (c .before .before .bound-one .ensures ∙ ap (λ (g : Page). boundAt (c .before .before .before .before .before .before .before .args .bounds) g (c .before .before .before .before .before .loop .j)) (c .before .before .before .before .before .loop .inv .2)))
+unfolding overAll boundAt
+loop-again c = (omega arith, omega arith, rw add-one (c .before .before .before .bound-to .ensures (c .before .before .before .before .before .before .before .before .loop .state) refl ∙ ap (λ (g : Page). boundAt (c .before .before .before .before .before .before .before .before .before .before .before .args .t1) g (c .before .before .before .before .before .before .before .before .loop .j)) (c .before .before .before .before .before .before .before .before .loop .inv .2)))
 
--- src/lib.rt:183:1
+-- src/lib.rt:185:1
 same-length : tie.Need-same-length Inv-loop μ-loop
 same-length c = search needs
 
--- src/lib.rt:183:1
+-- src/lib.rt:185:1
 returns : tie.Need-returns Inv-loop μ-loop
-returns c = let l = c .before .loop in let e : l .j ≡ c .before .before .before .args .n = omega arith in l .inv .2 ∙ rw e
+returns c = let l = c .before .loop in let e : l .j ≡ c .before .before .before .before .args .n = omega arith in l .inv .2 ∙ rw e
 
 pub bound-all-spec : {M : Type 1} → statement M
 bound-all-spec =
@@ -56,7 +80,13 @@ bound-all-spec =
     Inv-loop
     μ-loop
     loop-holds
-    bound-one-requires
+    mul-m
+    element-copy-out-m
+    mul-t
+    array-copy-out-t
+    bound-to-requires
+    mul-next
+    element-set-from-next
     add-j
     loop-less
     loop-again
