@@ -126,6 +126,3 @@ pub record Ready (s : State) (slab : List ℕ) (n : ℕ) : Type 0 where
   pub holds : AllHold s slab n
   pub earliests : AllLow (tagsTo (earliestAt s slab) n)
   pub completeds : AllLow (tagsTo (completedAt s) n)
-
-abbrev pub putting : Progress → ℕ → MemberState → Progress
-putting p i m = record { state = withRecord (p .state) i m; sent = p .sent }

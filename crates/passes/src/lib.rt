@@ -7,7 +7,7 @@ ghost use Rattle.states.specs.Steps.{every};
 ghost use Rattle.rows.specs.Rows.{Laid, members, downstreams, downstreamFirst, downstreamCount};
 ghost use Rattle.rows.specs.Loops.{overRows, overAll};
 ghost use Rattle.members.specs.Rules.{Mild, AllLow};
-ghost use Rattle.passes.specs.Pages.{on, at, storing, recordAt, posting, telling, grantTo, grantAt, grantBy, grantsIn, settledIn, followIn, putting, Ready, resting, restAt, joinedAt, stoppedAt, idleTo, idleAt, boundTo, boundAt, startAt, failAt};
+ghost use Rattle.passes.specs.Pages.{on, at, storing, recordAt, posting, grantTo, grantBy, grantsIn, settledIn, followIn, Ready, resting, restAt, joinedAt, stoppedAt, idleTo, idleAt, boundTo, boundAt, startAt, failAt};
 use states::Delivery;
 use states::MemberState;
 use states::State;
@@ -37,47 +37,46 @@ pub fn post(p: Progress, out: &mut [u64], d: Delivery) -> Progress
     q
 }
 
-// Member i's record replaced, and one delivery more.
-pub fn tell(p: Progress, out: &mut [u64], i: usize, m: MemberState, d: Delivery) -> Progress
-    requires { ⌜ (i < 32) × (7 * p .sent + 7 ≤ length (now out)) ⌝ }
-    ensures { λ r. ⌜ on r (now (out .exit)) ≡ telling (on p (now (out .entry))) i m d ⌝ }
-{
-    let k = p.sent;
-    requests::send(out, k, d);
-    let mut state = p.state;
-    state.members[i] = m;
-    Progress {
-        state: state,
-        sent: k + 1,
-    }
-}
-
-// The grant of a horizon to member j, if it is due.
-pub fn grant_to(p: Progress, out: &mut [u64], j: usize, m: MemberState, h: Tag) -> Progress
-    requires { ⌜ (j < 32) × (7 * p .sent + 7 ≤ length (now out)) ⌝ }
-    ensures { λ r. ⌜ on r (now (out .exit)) ≡ grantTo (on p (now (out .entry))) j m h ⌝ }
+// The grant of a horizon to member j with record m, if it is due, after k deliveries.
+pub fn grant_to(m: MemberState, h: Tag, out: &mut [u64], k: usize, j: usize) -> Told
+    requires { ⌜ 7 * k + 7 ≤ length (now out) ⌝ }
+    ensures { λ r. ⌜ ((s : State) → recordAt s j ≡ m → on (storing s j r) (now (out .exit)) ≡ grantTo (on (at s k) (now (out .entry))) j m h) ⌝ }
 {
     if records::is_due(m, h) {
         let publication = m.publication;
         let revision = records::revision(publication);
         let next = records::granted(m, revision, h);
-        return tell(p, out, j, next, Delivery::Grant(j as u64, revision, h));
+        requests::send(out, k, Delivery::Grant(j as u64, revision, h));
+        return Told {
+            member: next,
+            sent: k + 1,
+        };
     }
-    p
+    Told {
+        member: m,
+        sent: k,
+    }
 }
 
-// Idle to member j, if it is due.
-pub fn idle_to(p: Progress, out: &mut [u64], j: usize, m: MemberState) -> Progress
-    requires { ⌜ (j < 32) × (7 * p .sent + 7 ≤ length (now out)) ⌝ }
-    ensures { λ r. ⌜ on r (now (out .exit)) ≡ idleTo (on p (now (out .entry))) j m ⌝ }
+// Idle to member j with record m, if it is due, after k deliveries.
+pub fn idle_to(m: MemberState, out: &mut [u64], k: usize, j: usize) -> Told
+    requires { ⌜ 7 * k + 7 ≤ length (now out) ⌝ }
+    ensures { λ r. ⌜ ((s : State) → recordAt s j ≡ m → on (storing s j r) (now (out .exit)) ≡ idleTo (on (at s k) (now (out .entry))) j m) ⌝ }
 {
     if records::idle_due(m) {
         let publication = m.publication;
         let revision = records::revision(publication);
         let next = records::rested(m, revision);
-        return tell(p, out, j, next, Delivery::Idle(j as u64, revision));
+        requests::send(out, k, Delivery::Idle(j as u64, revision));
+        return Told {
+            member: next,
+            sent: k + 1,
+        };
     }
-    p
+    Told {
+        member: m,
+        sent: k,
+    }
 }
 
 // A bound to member j with record m, if it is due, after k deliveries.
@@ -99,42 +98,7 @@ pub fn bound_to(m: MemberState, t: Tag, out: &mut [u64], k: usize, j: usize) -> 
     }
 }
 
-// The grant to member j, if it is due: `earliest` and `completed` are the tags of all members.
-pub fn grant_one(
-    plan: &[u8],
-    earliest: [Tag; 32],
-    completed: [Tag; 32],
-    p: Progress,
-    out: &mut [u64],
-    j: usize,
-) -> Progress
-    requires { ⌜ Laid (now plan) × Mild (now plan) × AllLow earliest × AllLow completed × (j < members (now plan)) × (7 * p .sent + 7 ≤ length (now out)) ⌝ }
-    ensures { λ r. ⌜ on r (now (out .exit)) ≡ grantAt (now (plan .entry)) earliest completed (on p (now (out .entry))) j ⌝ }
-{
-    let state = p.state;
-    let m = state.members[j];
-    let granted = m.granted;
-    let h = members::horizon(plan, earliest, completed, members::or_never(granted), j);
-    grant_to(p, out, j, m, h)
-}
-
-// The grant to the member that downstream row k names.
-pub fn grant_by(
-    plan: &[u8],
-    earliest: [Tag; 32],
-    completed: [Tag; 32],
-    p: Progress,
-    out: &mut [u64],
-    k: usize,
-) -> Progress
-    requires { ⌜ Laid (now plan) × Mild (now plan) × AllLow earliest × AllLow completed × (k < downstreams (now plan)) × (7 * p .sent + 7 ≤ length (now out)) ⌝ }
-    ensures { λ r. ⌜ on r (now (out .exit)) ≡ grantBy (now (plan .entry)) earliest completed (on p (now (out .entry))) k ⌝ }
-{
-    let j = views::downstream(plan, k);
-    grant_one(plan, earliest, completed, p, out, j)
-}
-
-// The grants to the members downstream of i, in order.
+// The grants to the members downstream of i, in order: `earliest` and `completed` are the tags of all members.
 pub fn grant_below(
     plan: &[u8],
     earliest: [Tag; 32],
@@ -148,23 +112,24 @@ pub fn grant_below(
 {
     let first = rows::downstream_first(plan, i);
     let count = rows::downstream_count(plan, i);
-    let mut q = p;
+    let mut state = p.state;
+    let mut sent = p.sent;
     let mut c = 0;
     while c < count {
-        q = grant_by(plan, earliest, completed, q, out, first + c);
+        let j = views::downstream(plan, first + c);
+        let m = state.members[j];
+        let granted = m.granted;
+        let h = members::horizon(plan, earliest, completed, members::or_never(granted), j);
+        let told = grant_to(m, h, out, sent, j);
+        let next = told.member;
+        state.members[j] = next;
+        sent = told.sent;
         c += 1;
     }
-    q
-}
-
-// Idle to member j, if it is due.
-pub fn idle_one(p: Progress, out: &mut [u64], j: usize) -> Progress
-    requires { ⌜ (j < 32) × (7 * p .sent + 7 ≤ length (now out)) ⌝ }
-    ensures { λ r. ⌜ on r (now (out .exit)) ≡ idleAt (on p (now (out .entry))) j ⌝ }
-{
-    let state = p.state;
-    let m = state.members[j];
-    idle_to(p, out, j, m)
+    Progress {
+        state: state,
+        sent: sent,
+    }
 }
 
 // Idle to each of n members to whom it is due, ascending.
@@ -172,13 +137,21 @@ pub fn idle_all(p: Progress, out: &mut [u64], n: usize) -> Progress
     requires { ⌜ (n ≤ 32) × (7 * (p .sent + n) ≤ length (now out)) ⌝ }
     ensures { λ r. ⌜ on r (now (out .exit)) ≡ overAll idleAt n (on p (now (out .entry))) ⌝ }
 {
-    let mut q = p;
+    let mut state = p.state;
+    let mut sent = p.sent;
     let mut j = 0;
     while j < n {
-        q = idle_one(q, out, j);
+        let m = state.members[j];
+        let told = idle_to(m, out, sent, j);
+        let next = told.member;
+        state.members[j] = next;
+        sent = told.sent;
         j += 1;
     }
-    q
+    Progress {
+        state: state,
+        sent: sent,
+    }
 }
 
 // A bound to each of n members to whom it is due, ascending.
@@ -324,7 +297,17 @@ pub fn grants(
     requires { ⌜ Laid (now plan) × Mild (now plan) × AllLow earliest × AllLow completed × (i < members (now plan)) × (7 * (p .sent + 1 + downstreamCount (now plan) i) ≤ length (now out)) ⌝ }
     ensures { λ r. ⌜ on r (now (out .exit)) ≡ grantsIn (now (plan .entry)) earliest completed (on p (now (out .entry))) i ⌝ }
 {
-    let q = grant_one(plan, earliest, completed, p, out, i);
+    let mut state = p.state;
+    let m = state.members[i];
+    let granted = m.granted;
+    let h = members::horizon(plan, earliest, completed, members::or_never(granted), i);
+    let told = grant_to(m, h, out, p.sent, i);
+    let next = told.member;
+    state.members[i] = next;
+    let q = Progress {
+        state: state,
+        sent: told.sent,
+    };
     grant_below(plan, earliest, completed, q, out, i)
 }
 
@@ -352,17 +335,4 @@ pub fn follow(plan: &[u8], p: Progress, slab: &[u64], out: &mut [u64], i: usize)
     let bounds = members::bounds_all(plan, earliest);
     let q = grants(plan, earliest, completed, p, out, i);
     settle(bounds, q, out, n)
-}
-
-// Member i's record replaced.
-pub fn put(p: Progress, i: usize, m: MemberState) -> Progress
-    requires { ⌜ i < 32 ⌝ }
-    ensures { λ r. ⌜ r ≡ putting p i m ⌝ }
-{
-    let mut state = p.state;
-    state.members[i] = m;
-    Progress {
-        state: state,
-        sent: p.sent,
-    }
 }
