@@ -1,41 +1,48 @@
-//! bench SCRIPT..: times the Rust on workload scripts, in nanoseconds.
-//! Compiling: the analysis alone, and from plan bytes to compiled bytes.
-//! Requests: those after the line `# steady`, all and by kind; decoded beforehand, deliveries dropped.
-//! Each stretch of one kind counts with its least time, which other work on the machine disturbs least.
+//! bench < WORKLOAD: what crates/bench says of the coordinator, said of the Rust: how the workload is answered, in numbers, and,
+//! for a line `passes N`, the least times of N passes in microseconds of processor time.
+//! A request is decoded beforehand, and its deliveries are dropped. Compiling goes from plan bytes to compiled bytes; `analysis`
+//! is the Rust's own part of it.
 
 use boomerang_central_rti::compiled::{CompiledRti, FederateIndex, RtiRequest};
 use driver::plan::{analyze, compile, image, read, Rows};
-use driver::session::{narrow, request, Tables};
+use driver::session::{cause, delivery, narrow, request, Tables};
 use driver::text;
 use std::hint::black_box;
-use std::time::{Duration, Instant};
 
-const RUNS: usize = 9;
-const COMPILES: usize = 40;
-const KINDS: [&str; 8] = ["", "hello", "publish", "complete", "payload", "confirm", "stop", "abort"];
+const COMPILES: usize = 100;
+const PRIME: u64 = 2147483647;
+const FACTOR: u64 = 1000003;
 
-/// A member's request and its kind.
-type Call = (FederateIndex, RtiRequest, usize);
+extern "C" {
+    /// The C library's processor time of this process, in microseconds.
+    fn clock() -> i64;
+}
 
+/// A member's request, and its member word.
+type Call = (FederateIndex, RtiRequest, u64);
+
+#[derive(Default)]
 struct Workload {
     data: Vec<u8>,
     identity: u64,
     start: Vec<Call>,
     steady: Vec<Call>,
+    passes: u64,
 }
 
 fn parse(script: &str) -> Workload {
-    let mut workload = Workload { data: Vec::new(), identity: 0, start: Vec::new(), steady: Vec::new() };
+    let mut workload = Workload::default();
     let mut steady = false;
     for line in script.lines() {
         let words: Vec<&str> = line.split(' ').collect();
+        let number = |at: usize| text::number(words[at]).expect("a number");
         match words[0] {
             "plan" => workload.data = text::bytes(words[1]).expect("hex"),
-            "open" => workload.identity = text::number(words[1]).expect("a number"),
+            "open" => workload.identity = number(1),
+            "passes" => workload.passes = number(1),
             "request" => {
-                let words: Vec<u64> = words[1..].iter().map(|word| text::number(word).expect("a number")).collect();
-                let call =
-                    (FederateIndex::new(narrow(words[0])), request(&words).expect("a request"), words[1] as usize);
+                let words: Vec<u64> = (1..words.len()).map(number).collect();
+                let call = (FederateIndex::new(narrow(words[0])), request(&words).expect("a request"), words[0]);
                 if steady { &mut workload.steady } else { &mut workload.start }.push(call);
             }
             _ => steady |= line == "# steady",
@@ -44,86 +51,63 @@ fn parse(script: &str) -> Workload {
     workload
 }
 
-/// The least time of some runs.
-fn least(times: impl Iterator<Item = Duration>) -> f64 {
-    times.min().expect("a run").as_nanos() as f64
+/// How long some work takes, in microseconds.
+fn time(work: impl FnOnce()) -> i64 {
+    let start = unsafe { clock() };
+    work();
+    unsafe { clock() - start }
 }
 
-fn time<T>(mut work: impl FnMut() -> T) -> Duration {
-    let start = Instant::now();
-    black_box(work());
-    start.elapsed()
+/// The least time of so many passes.
+fn least(passes: u64, pass: impl FnMut(u64) -> i64) -> i64 {
+    (0..passes).map(pass).min().expect("a pass")
 }
 
-fn opened<'a>(tables: &'a Tables, workload: &Workload) -> CompiledRti<'a> {
+fn ask(rti: &mut CompiledRti<'_>, calls: &[Call]) {
+    for (member, request, _) in calls {
+        black_box(rti.handle(*member, request.clone()));
+    }
+}
+
+/// The time of the steady requests of one session.
+fn session(tables: &Tables, workload: &Workload) -> i64 {
     let mut rti = tables.open(workload.identity);
-    for (member, request, _) in workload.start.clone() {
-        rti.handle(member, request);
+    ask(&mut rti, &workload.start);
+    time(|| ask(&mut rti, &workload.steady))
+}
+
+/// Says how many deliveries are sent, the digest of their words, and what ended the session.
+fn answers(tables: &Tables, workload: &Workload) {
+    let mut rti = tables.open(workload.identity);
+    let (mut sent, mut digest) = (0, 0);
+    for (member, request, asker) in workload.start.iter().chain(&workload.steady) {
+        let deliveries = rti.handle(*member, request.clone());
+        sent += deliveries.len();
+        let words = deliveries.iter().flat_map(|one| delivery(one, Some(*asker)));
+        digest = words.fold(digest, |digest, word| (digest * FACTOR + word % PRIME) % PRIME);
     }
-    rti
+    println!("cause {}\ndeliveries {sent}\ndigest {digest}", rti.failure().map_or(0, |text| cause(text).0));
 }
 
-/// Requests of one kind in a row: the kind, how many, how long.
-type Stretch = (usize, usize, Duration);
-
-/// The times of one run, stretch by stretch.
-fn run(tables: &Tables, workload: &Workload) -> Vec<Stretch> {
-    let mut rti = opened(tables, workload);
-    let stretches = workload.steady.chunk_by(|one, other| one.2 == other.2);
-    let timed = stretches.map(|calls| {
-        let taken = time(|| {
-            for (member, request, _) in calls {
-                black_box(rti.handle(*member, request.clone()));
-            }
-        });
-        (calls[0].2, calls.len(), taken)
-    });
-    let timed = timed.collect();
-    assert!(rti.failure().is_none(), "the workload is accepted");
-    timed
-}
-
-/// The least time of each stretch over some runs.
-fn best(tables: &Tables, workload: &Workload) -> Vec<Stretch> {
-    let mut best = run(tables, workload);
-    for _ in 1..RUNS {
-        for (old, new) in best.iter_mut().zip(run(tables, workload)) {
-            old.2 = old.2.min(new.2);
-        }
-    }
-    best
-}
-
-/// Nanoseconds a request, and the number of requests, of the stretches that are asked for.
-fn rate(stretches: &[Stretch], wanted: impl Fn(usize) -> bool) -> (f64, usize) {
-    let found = || stretches.iter().filter(|stretch| wanted(stretch.0));
-    let count: usize = found().map(|stretch| stretch.1).sum();
-    let taken: Duration = found().map(|stretch| stretch.2).sum();
-    (taken.as_nanos() as f64 / count as f64, count)
-}
-
-fn report(name: &str, workload: &Workload) {
-    let rows: Rows = read(&workload.data).expect("a plan");
-    let analysis = least((0..COMPILES).map(|_| time(|| analyze(&rows).expect("a plan"))));
-    let bytes = |data: &[u8]| image(&compile(&read(data).expect("a plan")).expect("a plan"));
-    let whole_plan = least((0..COMPILES).map(|_| time(|| bytes(&workload.data))));
-    println!("{name} compile analysis {analysis:.0} bytes {whole_plan:.0}");
-    let tables = Tables::new(&compile(&rows).expect("a plan"));
-    let stretches = best(&tables, workload);
-    let (all, count) = rate(&stretches, |_| true);
-    println!("{name} request all {all:.0} of {count}");
-    for (kind, label) in KINDS.iter().enumerate() {
-        let (each, count) = rate(&stretches, |other| other == kind);
-        if count > 0 {
-            println!("{name} request {label} {each:.0}");
-        }
-    }
+fn times(rows: &Rows, tables: &Tables, workload: &Workload) {
+    let bytes = || image(&compile(&read(&workload.data).expect("a plan")).expect("a plan"));
+    let repeat = |work: &dyn Fn()| least(workload.passes, |_| time(|| (0..COMPILES).for_each(|_| work())));
+    let asked = least(workload.passes, |_| session(tables, workload));
+    println!("time request {} {asked}", workload.steady.len());
+    let compiled = repeat(&|| drop(black_box(bytes())));
+    println!("time compile {COMPILES} {compiled}");
+    let analysed = repeat(&|| drop(black_box(analyze(rows))));
+    println!("time analysis {COMPILES} {analysed}");
 }
 
 fn main() {
-    for path in std::env::args().skip(1) {
-        let script = std::fs::read_to_string(&path).expect("a script file");
-        let name = std::path::Path::new(&path).file_stem().expect("a name").to_string_lossy().into_owned();
-        report(&name, &parse(&script));
+    let workload = parse(&std::io::read_to_string(std::io::stdin()).expect("a workload"));
+    let rows: Rows = read(&workload.data).expect("a plan");
+    let plan = compile(&rows).expect("a plan");
+    println!("compiled {}\nsteady {}\nrefused 0", image(&plan).len(), workload.steady.len());
+    let tables = Tables::new(&plan);
+    answers(&tables, &workload);
+    if workload.passes > 0 {
+        times(&rows, &tables, &workload);
     }
 }
