@@ -52,10 +52,7 @@ pub fn grant_to(m: MemberState, h: Tag, out: &mut [u64], k: usize, j: usize) -> 
             sent: k + 1,
         };
     }
-    Told {
-        member: m,
-        sent: k,
-    }
+    Told { member: m, sent: k }
 }
 
 // Idle to member j with record m, if it is due, after k deliveries.
@@ -73,10 +70,7 @@ pub fn idle_to(m: MemberState, out: &mut [u64], k: usize, j: usize) -> Told
             sent: k + 1,
         };
     }
-    Told {
-        member: m,
-        sent: k,
-    }
+    Told { member: m, sent: k }
 }
 
 // A bound to member j with record m, if it is due, after k deliveries.
@@ -92,10 +86,7 @@ pub fn bound_to(m: MemberState, t: Tag, out: &mut [u64], k: usize, j: usize) -> 
             sent: k + 1,
         };
     }
-    Told {
-        member: m,
-        sent: k,
-    }
+    Told { member: m, sent: k }
 }
 
 // The grants to the members downstream of i, in order: `earliest` and `completed` are the tags of all members.

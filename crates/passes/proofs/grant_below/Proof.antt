@@ -90,14 +90,15 @@ loop-again c =
     let a = c .before .before .before .before .before .before .before .before .before .before .before .before .before .before .before .before .args in
     let k = c .before .before .before .before .before .before .before .before .before .before .before .before .before .downstream-first .result + l .c in
     let g = on (at (l .state) (l .sent)) (l .out) in
-    let j = c .before .before .before .before .before .before .before .before .downstream .result in
-    ( omega arith,
+    let j = c .before .before .before .before .before .before .before .before .downstream .result in (
+      omega arith,
       omega arith,
       rw add-one
-      (c .before .before .before .grant-to .ensures (l .state) refl
-      ∙ grant-at (a .plan .now) (a .earliest) (a .completed) g j _ _ (c .before .before .before .before .before .before .or-never .ensures) (c .before .before .before .before .before .horizon .ensures)
-      ∙ grant-by (a .plan .now) (a .earliest) (a .completed) g j k (c .before .before .before .before .before .before .before .before .downstream .ensures)
-      ∙ ap (λ (x : Page). grantBy (a .plan .now) (a .earliest) (a .completed) x k) (l .inv .2)) )
+          (c .before .before .before .grant-to .ensures (l .state) refl
+          ∙ grant-at (a .plan .now) (a .earliest) (a .completed) g j _ _ (c .before .before .before .before .before .before .or-never .ensures) (c .before .before .before .before .before .horizon .ensures)
+          ∙ grant-by (a .plan .now) (a .earliest) (a .completed) g j k (c .before .before .before .before .before .before .before .before .downstream .ensures)
+          ∙ ap (λ (x : Page). grantBy (a .plan .now) (a .earliest) (a .completed) x k) (l .inv .2)),
+    )
 
 -- src/lib.rt:102:1
 same-length : tie.Need-same-length Inv-loop μ-loop

@@ -1,7 +1,6 @@
 //! bench < WORKLOAD: what crates/bench says of the coordinator, said of the Rust: how the workload is answered, in numbers, and,
 //! for a line `passes N`, the least times of N passes in microseconds of processor time.
-//! A request is decoded beforehand, and its deliveries are dropped. Compiling goes from plan bytes to compiled bytes; `analysis`
-//! is the Rust's own part of it.
+//! A request is decoded beforehand, and its deliveries are dropped. Of compiling, the analysis alone is timed.
 
 use boomerang_central_rti::compiled::{CompiledRti, FederateIndex, RtiRequest};
 use driver::plan::{analyze, compile, image, read, Rows};
@@ -90,12 +89,9 @@ fn answers(tables: &Tables, workload: &Workload) {
 }
 
 fn times(rows: &Rows, tables: &Tables, workload: &Workload) {
-    let bytes = || image(&compile(&read(&workload.data).expect("a plan")).expect("a plan"));
     let repeat = |work: &dyn Fn()| least(workload.passes, |_| time(|| (0..COMPILES).for_each(|_| work())));
     let asked = least(workload.passes, |_| session(tables, workload));
     println!("time request {} {asked}", workload.steady.len());
-    let compiled = repeat(&|| drop(black_box(bytes())));
-    println!("time compile {COMPILES} {compiled}");
     let analysed = repeat(&|| drop(black_box(analyze(rows))));
     println!("time analysis {COMPILES} {analysed}");
 }
