@@ -88,12 +88,19 @@ fn edge_number(id: &BoundaryId) -> u64 {
     id.to_canonical_string().parse().expect("our own digits")
 }
 
-/// The Rust's own analysis of these rows.
-pub fn analyze(rows: &Rows) -> Result<AnalyzedFederationGraph, FederationAnalysisError> {
+/// What the Rust's analysis is given: members and edges by identities of its own.
+pub type Declared = (Vec<FederateId>, Vec<FederationEdge>);
+
+pub fn declare(rows: &Rows) -> Declared {
     let edge = |&[id, source, target, delay]: &[u64; 4]| {
         FederationEdge::new(member_id(source), member_id(target), edge_id(id), FederationDelay::from_nanos(delay))
     };
-    analyze_federation_graph(rows.members.iter().map(|&(id, _)| member_id(id)), rows.edges.iter().map(edge))
+    (rows.members.iter().map(|&(id, _)| member_id(id)).collect(), rows.edges.iter().map(edge).collect())
+}
+
+/// The Rust's own analysis.
+pub fn analyze((members, edges): Declared) -> Result<AnalyzedFederationGraph, FederationAnalysisError> {
+    analyze_federation_graph(members, edges)
 }
 
 /// Refusals 5 to 9 as the Rust gives them.
@@ -118,7 +125,7 @@ fn numbered(rows: &Rows, error: FederationAnalysisError) -> Refusal {
 
 /// Refusals 5 to 9, then the analysis in positions.
 pub fn compile(rows: &Rows) -> Result<Compiled, Refusal> {
-    let graph = analyze(rows).map_err(|error| numbered(rows, error))?;
+    let graph = analyze(declare(rows)).map_err(|error| numbered(rows, error))?;
     Ok(positions(rows, &graph))
 }
 

@@ -1,9 +1,10 @@
 //! bench < WORKLOAD: what crates/bench says of the coordinator, said of the Rust: how the workload is answered, in numbers, and,
 //! for a line `passes N`, the least times of N passes in microseconds of processor time.
-//! A request is decoded beforehand, and its deliveries are dropped. Of compiling, the analysis alone is timed.
+//! A request is decoded beforehand, and its deliveries are dropped. Of compiling, the analysis alone is timed,
+//! without making the identities that it is given.
 
 use boomerang_central_rti::compiled::{CompiledRti, FederateIndex, RtiRequest};
-use driver::plan::{analyze, compile, image, read, Rows};
+use driver::plan::{analyze, compile, declare, image, read, Declared, Rows};
 use driver::session::{cause, delivery, narrow, request, Tables};
 use driver::text;
 use std::hint::black_box;
@@ -88,11 +89,17 @@ fn answers(tables: &Tables, workload: &Workload) {
     println!("cause {}\ndeliveries {sent}\ndigest {digest}", rti.failure().map_or(0, |text| cause(text).0));
 }
 
+/// The time of analysing the plan so many times; what it is given is made before, what it gives is dropped after.
+fn analysis(rows: &Rows) -> i64 {
+    let given: Vec<Declared> = (0..COMPILES).map(|_| declare(rows)).collect();
+    let mut found = Vec::with_capacity(COMPILES);
+    time(|| found.extend(given.into_iter().map(|plan| black_box(analyze(plan)))))
+}
+
 fn times(rows: &Rows, tables: &Tables, workload: &Workload) {
-    let repeat = |work: &dyn Fn()| least(workload.passes, |_| time(|| (0..COMPILES).for_each(|_| work())));
     let asked = least(workload.passes, |_| session(tables, workload));
     println!("time request {} {asked}", workload.steady.len());
-    let analysed = repeat(&|| drop(black_box(analyze(rows))));
+    let analysed = least(workload.passes, |_| analysis(rows));
     println!("time analysis {COMPILES} {analysed}");
 }
 
