@@ -4,7 +4,7 @@ ghost use Prim.Native.Nat.{_+_, _*_, _<_, _≤_};
 ghost use lib.ListN.{length};
 ghost use Rattle.basis.specs.Choice.{both};
 ghost use Rattle.states.specs.Steps.{every};
-ghost use Rattle.rows.specs.Rows.{Laid, members, downstreams, downstreamFirst, downstreamCount};
+ghost use Rattle.rows.specs.Rows.{Laid, members, downstreamFirst, downstreamCount};
 ghost use Rattle.rows.specs.Loops.{overRows, overAll};
 ghost use Rattle.members.specs.Rules.{Mild, AllLow};
 ghost use Rattle.passes.specs.Pages.{on, at, storing, recordAt, posting, grantTo, grantBy, grantsIn, settledIn, followIn, Ready, resting, restAt, joinedAt, stoppedAt, idleTo, idleAt, boundTo, boundAt, startAt, failAt};

@@ -1,7 +1,6 @@
-use Rattle.passes.specs.Pages.{on, at, boundTo}
+use Rattle.passes.specs.Pages.{boundTo}
 use Rattle.passes.proofs.Turns.{kept}
 use Rattle.basis.specs.Choice.{chosen, passed}
-use Rattle.states.specs.declared.State.{State}
 use mathlib.Core.Path.{_≡_, refl, sym, ap, _∙_}
 use borrow.Author.Needs.{needs}
 use Rattle.passes.proofs.bound_to.Statement.{statement}
