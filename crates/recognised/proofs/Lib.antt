@@ -6,6 +6,7 @@ pub mod Lookup
 pub mod Cells
 pub mod Fields
 pub mod Matrix
+pub mod Words
 pub mod Sound
 pub mod Complete
 pub mod Walks

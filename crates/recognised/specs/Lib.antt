@@ -5,3 +5,4 @@ pub mod Facts
 pub mod Walks
 pub mod Recognised
 pub mod Usable
+pub mod Words

@@ -1,8 +1,8 @@
 -- `recognised::stands` meets its contract.
 -- Assumes nothing.
-use Rattle.recognised.proofs.Matrix.{blank-fresh, refused, answered}
+use Rattle.recognised.proofs.Matrix.{refused}
 use Rattle.recognised.proofs.Sits.{bytes-of}
-use Rattle.recognised.proofs.Cells.{tells-true, tells-false, not-taken, not-left}
+use Rattle.recognised.proofs.Cells.{tells-true, tells-false, not-taken, not-left, never}
 use native.Mathlib.Omega.{arith}
 use borrow.Author.Needs.{needs}
 use Rattle.recognised.proofs.stands.Statement.{statement}
@@ -17,31 +17,35 @@ returns c =
     tells-false (refused (s .args .plan .now) (bytes-of (s .args .plan .now) (λ i. c .before .before .before .before .shared-slice-known .given i .fits)) (s .pre .2) (s .args .n) (s .args .e) (s .pre .3) (s .pre .4) (s .args .ck .now) (s .args .cv .now)
     (c .before .apart .ensures .wrong (not-taken _ (c .if1 .taken))))
 
-slice-aggregate-steps : tie.Need-slice-aggregate-steps
-slice-aggregate-steps c = search needs
+brief-edges-requires : tie.Need-brief-edges-requires
+brief-edges-requires c κs = let s = c .before .before .before .before .before in (s .pre .2 .header, s .pre .4)
 
-slice-aggregate-steps-2 : tie.Need-slice-aggregate-steps-2
-slice-aggregate-steps-2 c = search needs
-
-steps-requires : tie.Need-steps-requires
-steps-requires c κs =
+by-kinds-requires : tie.Need-by-kinds-requires
+by-kinds-requires c κs =
     let s = c .before .before .before .before .before .before .before in
-    (search needs, search needs, search needs, search needs, s .pre .2, s .pre .3, s .pre .4, blank-fresh _)
-
-slice-aggregate-fair-rows : tie.Need-slice-aggregate-fair-rows
-slice-aggregate-fair-rows c = search needs
-
-slice-aggregate-fair-rows-2 : tie.Need-slice-aggregate-fair-rows-2
-slice-aggregate-fair-rows-2 c = search needs
-
-fair-rows-requires : tie.Need-fair-rows-requires
-fair-rows-requires c κs = search needs
+    (s .pre .0, s .pre .1, s .pre .2, s .pre .3, s .pre .4, c .before .before .before .apart .ensures .right (not-left _ (c .before .before .if1 .left)))
 
 returns-2 : tie.Need-returns-2
-returns-2 c =
-    let s = c .before .before .before .before .before .before .before .before .before .before .before .before .before in
-    answered (s .args .plan .now) (bytes-of (s .args .plan .now) (λ i. c .before .before .before .before .before .before .before .before .before .before .before .before .shared-slice-known .given i .fits)) (s .pre .2) (s .args .n) (s .args .e) (s .pre .3) (s .pre .4) (s .args .ck .now) (s .args .cv .now) _ _ _
-    (c .before .before .before .before .before .before .before .before .before .apart .ensures .right (not-left _ (c .before .before .before .before .before .before .before .before .if1 .left))) (c .before .before .before .before .before .steps .ensures) (c .fair-rows .ensures)
+returns-2 c = c .by-kinds .ensures
+
+plainly-requires : tie.Need-plainly-requires
+plainly-requires c κs = let s = c .before .before .before .before .before .before .before in omega (arith, s .pre .2 .header .few)
+
+by-kinds-requires-2 : tie.Need-by-kinds-requires-2
+by-kinds-requires-2 c κs =
+    let s = c .before .before .before .before .before .before .before .before .before in
+    (s .pre .0, s .pre .1, s .pre .2, s .pre .3, s .pre .4, c .before .before .before .before .before .apart .ensures .right (not-left _ (c .before .before .before .before .if1 .left)))
+
+returns-3 : tie.Need-returns-3
+returns-3 c = c .by-kinds2 .ensures
+
+by-words-requires : tie.Need-by-words-requires
+by-words-requires c κs =
+    let s = c .before .before .before .before .before .before .before .before .before in
+    (s .pre .0, s .pre .1, s .pre .2, s .pre .3, s .pre .4, c .before .before .before .before .before .apart .ensures .right (not-left _ (c .before .before .before .before .if1 .left)), c .before .before .before .brief-edges .ensures (not-left _ (c .before .before .if2 .left)), c .before .plainly .ensures (not-left _ (c .if3 .left)))
+
+returns-4 : tie.Need-returns-4
+returns-4 c = c .by-words .ensures
 
 pub stands-spec : {M : Type 1} → statement M
 stands-spec =
@@ -49,10 +53,11 @@ stands-spec =
     (tie.spec
     apart-requires
     returns
-    slice-aggregate-steps
-    slice-aggregate-steps-2
-    steps-requires
-    slice-aggregate-fair-rows
-    slice-aggregate-fair-rows-2
-    fair-rows-requires
-    returns-2)
+    brief-edges-requires
+    by-kinds-requires
+    returns-2
+    plainly-requires
+    by-kinds-requires-2
+    returns-3
+    by-words-requires
+    returns-4)
