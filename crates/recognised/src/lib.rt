@@ -9,14 +9,14 @@ ghost use lib.Dec.{ltb};
 ghost use Rattle.delays.specs.Graph.{far, none, plus, direct};
 ghost use Rattle.delays.specs.Lists.{sourced, passing, directSources};
 ghost use Rattle.delays.specs.Cells.{cell, grid, distOf};
-ghost use Rattle.rows.specs.Rows.{members, edges, directs, directsAt, field, edgeId, edgeSource, edgeTarget, edgeDelay, directFirst, directCount, downstreamFirst, downstreamCount};
+ghost use Rattle.rows.specs.Rows.{members, edges, directs, directsAt, transitives, transitiveDelay, field, edgeId, edgeSource, edgeTarget, edgeDelay, directFirst, directCount, downstreamFirst, downstreamCount};
 ghost use Rattle.rows.specs.Plans.{planIn};
 ghost use Rattle.rows.specs.Loops.{delayOf};
 ghost use Rattle.rows.specs.Nets.{minimumIn};
 ghost use Rattle.image.specs.Image.{laid, sourceRow, targetRow};
 ghost use Rattle.recognised.specs.Steps.{rest, step, Minimal};
 ghost use Rattle.recognised.specs.Cells.{Tells, Blank, Lowered, Swept, Covers, Fair, Filled};
-ghost use Rattle.recognised.specs.Words.{brief, word, table, Brief, Briefs, Plainly, Put, Passed, Says};
+ghost use Rattle.recognised.specs.Words.{brief, word, table, Brief, Briefs, Plains, Briefly, Brisk, Put, Passed, Says};
 ghost use Rattle.recognised.specs.Sits.{Sits};
 ghost use Rattle.recognised.specs.Walks.{sourceOf, near, onward, Whole, Readable, Reached};
 ghost use Rattle.recognised.specs.Facts.{Header, Places, MemberRight, EdgeRight, Routed, Rowed, Tabled};
@@ -497,49 +497,6 @@ fn same_rows(out: &[u64], words: &[u64], n: usize) -> bool
     true
 }
 
-// Whether an entry's word is brief and says what the entry says.
-fn plainly_at(kind: u8, value: u64) -> bool
-    ensures { λ r. ⌜ (r ≡ true → Plainly kind value) ⌝ }
-{
-    if kind == 0 {
-        return value < BRIEF;
-    }
-    if kind == 1 {
-        return false;
-    }
-    value == LOST
-}
-
-fn plainly_row(ck: &[u8], cv: &[u64], s: usize, n: usize) -> bool
-    requires { ⌜ (length (now ck) ≡ 1024) × (length (now cv) ≡ 1024) × (s < 32) × (n ≤ 32) ⌝ }
-    ensures { λ r. ⌜ (r ≡ true → (t : ℕ) → t < n → Plainly (getD (now (ck .entry)) (s * 32 + t) 0) (getD (now (cv .entry)) (s * 32 + t) 0)) ⌝ }
-{
-    let mut t: usize = 0;
-    while t < n {
-        let p = s * ROW + t;
-        if !plainly_at(ck[p], cv[p]) {
-            return false;
-        }
-        t += 1;
-    }
-    true
-}
-
-// Whether the words alone say what the first n rows and columns say, and are brief.
-fn plainly(ck: &[u8], cv: &[u64], n: usize) -> bool
-    requires { ⌜ (length (now ck) ≡ 1024) × (length (now cv) ≡ 1024) × (n ≤ 32) ⌝ }
-    ensures { λ r. ⌜ (r ≡ true → (s : ℕ) → s < n → (t : ℕ) → t < n → Plainly (getD (now (ck .entry)) (s * 32 + t) 0) (getD (now (cv .entry)) (s * 32 + t) 0)) ⌝ }
-{
-    let mut s: usize = 0;
-    while s < n {
-        if !plainly_row(ck, cv, s, n) {
-            return false;
-        }
-        s += 1;
-    }
-    true
-}
-
 // Whether every edge's delay is brief.
 fn brief_edges(plan: &[u8], e: usize) -> bool
     requires { ⌜ Header (now plan) × (e ≡ edges (now plan)) ⌝ }
@@ -555,9 +512,24 @@ fn brief_edges(plan: &[u8], e: usize) -> bool
     true
 }
 
+// Whether every transitive row's delay is brief.
+fn brief_rows(plan: &[u8], place: usize, rows: usize) -> bool
+    requires { ⌜ place + 16 * rows ≤ length (now plan) ⌝ }
+    ensures { λ r. ⌜ (r ≡ true → (k : ℕ) → k < rows → field 8 place 16 8 k (now (plan .entry)) < brief) ⌝ }
+{
+    let mut k: usize = 0;
+    while k < rows {
+        if BRIEF <= rows::wide_in_source(plan, place, k, 8) {
+            return false;
+        }
+        k += 1;
+    }
+    true
+}
+
 // Whether the claimed matrix is right, by words alone.
 fn by_words(plan: &[u8], ck: &[u8], cv: &[u64], n: usize, e: usize) -> bool
-    requires { ⌜ (length (now ck) ≡ 1024) × (length (now cv) ≡ 1024) × Routed (now plan) × (n ≡ members (now plan)) × (e ≡ edges (now plan)) × ((i : ℕ) → i < n → grid (now ck) (now cv) i i ≢ 0) × ((k : ℕ) → k < e → edgeDelay (now plan) k < brief) × ((s : ℕ) → s < n → (t : ℕ) → t < n → Plainly (getD (now ck) (s * 32 + t) 0) (getD (now cv) (s * 32 + t) 0)) ⌝ }
+    requires { ⌜ (length (now ck) ≡ 1024) × (length (now cv) ≡ 1024) × Routed (now plan) × (n ≡ members (now plan)) × (e ≡ edges (now plan)) × ((i : ℕ) → i < n → grid (now ck) (now cv) i i ≢ 0) × Briefly (now plan) (now ck) (now cv) e ⌝ }
     ensures { λ r. ⌜ Tells r (Minimal (planIn (now (plan .entry)) .sources) (planIn (now (plan .entry)) .targets) (planIn (now (plan .entry)) .delays) e n (grid (now (ck .entry)) (now (cv .entry)))) ⌝ }
 {
     let mut out = [LOST; 1024];
@@ -565,21 +537,30 @@ fn by_words(plan: &[u8], ck: &[u8], cv: &[u64], n: usize, e: usize) -> bool
     same_rows(&out, cv, n)
 }
 
+// Whether the delays of all edges and transitive rows are brief.
+fn briefly(plan: &[u8], e: usize) -> bool
+    requires { ⌜ Header (now plan) × (e ≡ edges (now plan)) ⌝ }
+    ensures { λ r. ⌜ (r ≡ true → Brisk (now (plan .entry)) e) ⌝ }
+{
+    if !brief_edges(plan, e) {
+        return false;
+    }
+    let place = rows::number(plan, 36);
+    brief_rows(plan, place, rows::number(plan, 16))
+}
+
 // Whether the claimed matrix has the plan's minimum delays, with none too far and no closed walk of no delay.
-fn stands(plan: &[u8], ck: &[u8], cv: &[u64], n: usize, e: usize) -> bool
-    requires { ⌜ (length (now ck) ≡ 1024) × (length (now cv) ≡ 1024) × Routed (now plan) × (n ≡ members (now plan)) × (e ≡ edges (now plan)) ⌝ }
+fn stands(plan: &[u8], ck: &[u8], cv: &[u64], n: usize, e: usize, short: bool) -> bool
+    requires { ⌜ (length (now ck) ≡ 1024) × (length (now cv) ≡ 1024) × Routed (now plan) × (n ≡ members (now plan)) × (e ≡ edges (now plan)) × (short ≡ true → Briefly (now plan) (now ck) (now cv) e) ⌝ }
     ensures { λ r. ⌜ Tells r (Minimal (planIn (now (plan .entry)) .sources) (planIn (now (plan .entry)) .targets) (planIn (now (plan .entry)) .delays) e n (grid (now (ck .entry)) (now (cv .entry)))) ⌝ }
 {
     if !apart(ck, cv, n) {
         return false;
     }
-    if !brief_edges(plan, e) {
-        return by_kinds(plan, ck, cv, n, e);
+    if short {
+        return by_words(plan, ck, cv, n, e);
     }
-    if !plainly(ck, cv, n) {
-        return by_kinds(plan, ck, cv, n, e);
-    }
-    by_words(plan, ck, cv, n, e)
+    by_kinds(plan, ck, cv, n, e)
 }
 
 // Puts the delays of c rows from k on into column t; no where a row names no member.
@@ -596,6 +577,7 @@ fn claim_rows(
     requires { ⌜ (length (now kind) ≡ 1024) × (length (now value) ≡ 1024) × (t < 32) × (n ≤ 32) × (place + 16 * (k + c) ≤ length (now plan)) × ((s : ℕ) → s < 32 → grid (now kind) (now value) s t ≡ none) ⌝ }
     ensures told { λ r. ⌜ Tells r ((q : ℕ) → q < c → field 4 place 16 0 (k + q) (now (plan .entry)) < n) ⌝ }
     ensures filled { λ r. ⌜ (r ≡ true → Filled (now (kind .entry)) (now (value .entry)) (now (kind .exit)) (now (value .exit)) t (delayOf (λ (x : ℕ). field 4 place 16 0 x (now (plan .entry))) (λ (x : ℕ). field 8 place 16 8 x (now (plan .entry))) k c)) ⌝ }
+    ensures plain { λ r. ⌜ (r ≡ true → ((q : ℕ) → q < c → field 8 place 16 8 (k + q) (now (plan .entry)) < brief) → Plains (now (kind .entry)) (now (value .entry)) → Plains (now (kind .exit)) (now (value .exit))) ⌝ }
 {
     let mut q: usize = 0;
     while q < c {
@@ -841,6 +823,7 @@ fn claim_member(plan: &[u8], n: usize, t: usize, kind: &mut [u8], value: &mut [u
     requires { ⌜ (length (now kind) ≡ 1024) × (length (now value) ≡ 1024) × Header (now plan) × (n ≡ members (now plan)) × (t < n) × ((s : ℕ) → s < 32 → grid (now kind) (now value) s t ≡ none) ⌝ }
     ensures told { λ r. ⌜ Tells r (Readable (now (plan .entry)) t) ⌝ }
     ensures filled { λ r. ⌜ (r ≡ true → Filled (now (kind .entry)) (now (value .entry)) (now (kind .exit)) (now (value .exit)) t (λ (s : ℕ). minimumIn (now (plan .entry)) s t)) ⌝ }
+    ensures plain { λ r. ⌜ (r ≡ true → ((k : ℕ) → k < transitives (now (plan .entry)) → transitiveDelay (now (plan .entry)) k < brief) → Plains (now (kind .entry)) (now (value .entry)) → Plains (now (kind .exit)) (now (value .exit))) ⌝ }
 {
     let place = rows::number(plan, 36);
     let rows = rows::number(plan, 16);
@@ -860,6 +843,7 @@ fn claim(plan: &[u8], n: usize, kind: &mut [u8], value: &mut [u64]) -> bool
     requires { ⌜ (length (now kind) ≡ 1024) × (length (now value) ≡ 1024) × Header (now plan) × (n ≡ members (now plan)) × Blank (now kind) (now value) ⌝ }
     ensures told { λ r. ⌜ Tells r ((t : ℕ) → t < n → Readable (now (plan .entry)) t) ⌝ }
     ensures filled { λ r. ⌜ (r ≡ true → Covers (now (kind .exit)) (now (value .exit)) n (minimumIn (now (plan .entry)))) ⌝ }
+    ensures plain { λ r. ⌜ (r ≡ true → ((k : ℕ) → k < transitives (now (plan .entry)) → transitiveDelay (now (plan .entry)) k < brief) → Plains (now (kind .entry)) (now (value .entry)) → Plains (now (kind .exit)) (now (value .exit))) ⌝ }
 {
     let mut t: usize = 0;
     while t < n {
@@ -885,11 +869,11 @@ fn directs_right(plan: &[u8], n: usize, e: usize) -> bool
 }
 
 // Whether the claimed matrix is right, and the transitive and downstream rows are those of it.
-fn minima_right(plan: &[u8], kind: &[u8], value: &[u64], n: usize, e: usize) -> bool
-    requires { ⌜ (length (now kind) ≡ 1024) × (length (now value) ≡ 1024) × Routed (now plan) × (n ≡ members (now plan)) × (e ≡ edges (now plan)) ⌝ }
+fn minima_right(plan: &[u8], kind: &[u8], value: &[u64], n: usize, e: usize, short: bool) -> bool
+    requires { ⌜ (length (now kind) ≡ 1024) × (length (now value) ≡ 1024) × Routed (now plan) × (n ≡ members (now plan)) × (e ≡ edges (now plan)) × (short ≡ true → Briefly (now plan) (now kind) (now value) e) ⌝ }
     ensures { λ r. ⌜ Tells r (Reached (now (plan .entry)) n e (grid (now (kind .entry)) (now (value .entry)))) ⌝ }
 {
-    if !stands(plan, kind, value, n, e) {
+    if !stands(plan, kind, value, n, e, short) {
         return false;
     }
     let transitives = rows::number(plan, 36);
@@ -976,8 +960,12 @@ fn judge(plan: &[u8], n: usize, e: usize) -> u64
     if !claim(plan, n, &mut kind, &mut value) {
         return NO_IMAGE;
     }
-    if !minima_right(plan, &kind, &value, n, e) {
+    let short = briefly(plan, e);
+    if !minima_right(plan, &kind, &value, n, e, short) {
         return NO_IMAGE;
+    }
+    if short {
+        return 0;
     }
     if !short_edges(plan, e) {
         return TOO_LONG;

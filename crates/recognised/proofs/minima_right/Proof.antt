@@ -12,7 +12,7 @@ use Rattle.recognised.proofs.minima_right.Statement.{statement}
 use Rattle.recognised.proofs.minima_right.Tie as tie
 
 stands-requires : tie.Need-stands-requires
-stands-requires c κs = let s = c .before .before .before in (search needs, search needs, s .pre .2, s .pre .3, s .pre .4)
+stands-requires c κs = let s = c .before .before .before in (search needs, search needs, s .pre .2, s .pre .3, s .pre .4, s .pre .5)
 
 returns : tie.Need-returns
 returns c = tells-false (λ X. c .before .stands .ensures .wrong (not-taken _ (c .if1 .taken)) (X .minimal))

@@ -17,35 +17,21 @@ returns c =
     tells-false (refused (s .args .plan .now) (bytes-of (s .args .plan .now) (λ i. c .before .before .before .before .shared-slice-known .given i .fits)) (s .pre .2) (s .args .n) (s .args .e) (s .pre .3) (s .pre .4) (s .args .ck .now) (s .args .cv .now)
     (c .before .apart .ensures .wrong (not-taken _ (c .if1 .taken))))
 
-brief-edges-requires : tie.Need-brief-edges-requires
-brief-edges-requires c κs = let s = c .before .before .before .before .before in (s .pre .2 .header, s .pre .4)
+by-words-requires : tie.Need-by-words-requires
+by-words-requires c κs =
+    let s = c .before .before .before .before .before .before in
+    (s .pre .0, s .pre .1, s .pre .2, s .pre .3, s .pre .4, c .before .before .apart .ensures .right (not-left _ (c .before .if1 .left)), s .pre .5 (c .if2 .taken))
+
+returns-2 : tie.Need-returns-2
+returns-2 c = c .by-words .ensures
 
 by-kinds-requires : tie.Need-by-kinds-requires
 by-kinds-requires c κs =
-    let s = c .before .before .before .before .before .before .before in
-    (s .pre .0, s .pre .1, s .pre .2, s .pre .3, s .pre .4, c .before .before .before .apart .ensures .right (not-left _ (c .before .before .if1 .left)))
-
-returns-2 : tie.Need-returns-2
-returns-2 c = c .by-kinds .ensures
-
-plainly-requires : tie.Need-plainly-requires
-plainly-requires c κs = let s = c .before .before .before .before .before .before .before in omega (arith, s .pre .2 .header .few)
-
-by-kinds-requires-2 : tie.Need-by-kinds-requires-2
-by-kinds-requires-2 c κs =
-    let s = c .before .before .before .before .before .before .before .before .before in
-    (s .pre .0, s .pre .1, s .pre .2, s .pre .3, s .pre .4, c .before .before .before .before .before .apart .ensures .right (not-left _ (c .before .before .before .before .if1 .left)))
+    let s = c .before .before .before .before .before .before in
+    (s .pre .0, s .pre .1, s .pre .2, s .pre .3, s .pre .4, c .before .before .apart .ensures .right (not-left _ (c .before .if1 .left)))
 
 returns-3 : tie.Need-returns-3
-returns-3 c = c .by-kinds2 .ensures
-
-by-words-requires : tie.Need-by-words-requires
-by-words-requires c κs =
-    let s = c .before .before .before .before .before .before .before .before .before in
-    (s .pre .0, s .pre .1, s .pre .2, s .pre .3, s .pre .4, c .before .before .before .before .before .apart .ensures .right (not-left _ (c .before .before .before .before .if1 .left)), c .before .before .before .brief-edges .ensures (not-left _ (c .before .before .if2 .left)), c .before .plainly .ensures (not-left _ (c .if3 .left)))
-
-returns-4 : tie.Need-returns-4
-returns-4 c = c .by-words .ensures
+returns-3 c = c .by-kinds .ensures
 
 pub stands-spec : {M : Type 1} → statement M
 stands-spec =
@@ -53,11 +39,7 @@ stands-spec =
     (tie.spec
     apart-requires
     returns
-    brief-edges-requires
-    by-kinds-requires
-    returns-2
-    plainly-requires
-    by-kinds-requires-2
-    returns-3
     by-words-requires
-    returns-4)
+    returns-2
+    by-kinds-requires
+    returns-3)
