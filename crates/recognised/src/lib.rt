@@ -471,15 +471,16 @@ fn same_row(out: &[u64], words: &[u64], s: usize, n: usize) -> bool
     requires { ⌜ (length (now out) ≡ 1024) × (length (now words) ≡ 1024) × (s < 32) × (n ≤ 32) ⌝ }
     ensures { λ r. ⌜ Tells r ((t : ℕ) → t < n → getD (now (out .entry)) (s * 32 + t) 0 ≡ getD (now (words .entry)) (s * 32 + t) 0) ⌝ }
 {
+    let mut wrong: usize = 0;
     let mut t: usize = 0;
     while t < n {
         let p = s * ROW + t;
         if out[p] != words[p] {
-            return false;
+            wrong = 1;
         }
         t += 1;
     }
-    true
+    wrong == 0
 }
 
 // Whether the first n rows and columns have the same words.
@@ -599,10 +600,7 @@ fn source_row(plan: &[u8], place: usize, k: usize, s: usize, d: u64) -> bool
     requires { ⌜ (place + 16 * k + 16 ≤ length (now plan)) × (s < 32) ⌝ }
     ensures { λ r. ⌜ Tells r (Sits (now (plan .entry)) (place + 16 * k) (sourceRow (record { source = s; delay = d }))) ⌝ }
 {
-    if rows::in_source(plan, place, k, 0) != s {
-        return false;
-    }
-    if rows::in_source(plan, place, k, 4) != 0 {
+    if rows::wide_in_source(plan, place, k, 0) != s as u64 {
         return false;
     }
     rows::wide_in_source(plan, place, k, 8) == d

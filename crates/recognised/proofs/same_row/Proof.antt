@@ -2,8 +2,9 @@
 -- Assumes nothing.
 use Prim.Native.Nat.{ℕ, _+_, _*_, _<_, _≤_, _-_}
 use mathlib.Core.Path.{_≡_, sym}
+use mathlib.Core.Logic.{⊎-elim}
 use lib.ListN.{length, getD}
-use Rattle.recognised.proofs.Cells.{tells-true, tells-false, not-taken, not-left, never}
+use borrow.Author.Tests.{eqb-true, eqb-false}
 use borrow.Author.Count.{below-more}
 use native.Mathlib.Omega.{arith}
 use borrow.Author.Needs.{needs}
@@ -11,13 +12,15 @@ use Rattle.recognised.proofs.same_row.Statement.{statement}
 use Rattle.recognised.proofs.same_row.Tie as tie
 
 abbrev Inv-loop : tie.InvT-loop
-Inv-loop out words s n t₀ t = (t ≤ n) × ((x : ℕ) → x < t → getD out (s * 32 + x) 0 ≡ getD words (s * 32 + x) 0)
+Inv-loop out words s n wrong₀ t₀ wrong t =
+    (t ≤ n) × (wrong ≡ 0 → (x : ℕ) → x < t → getD out (s * 32 + x) 0 ≡ getD words (s * 32 + x) 0)
+    × (0 < wrong → ((x : ℕ) → x < t → getD out (s * 32 + x) 0 ≡ getD words (s * 32 + x) 0) → ⊥)
 
 abbrev μ-loop : tie.MeasureT-loop
-μ-loop out words s n t₀ t = n - t
+μ-loop out words s n wrong₀ t₀ wrong t = n - t
 
 loop-holds : tie.Need-loop-holds Inv-loop μ-loop
-loop-holds c = (omega arith, λ x l. absurd (omega arith))
+loop-holds c = (omega arith, λ e x l. absurd (omega arith), λ e. absurd (omega arith))
 
 mul-p : tie.Need-mul-p Inv-loop μ-loop
 mul-p c = omega arith
@@ -37,9 +40,6 @@ mul-if1-2 c = omega arith
 shared-slice-read-if1-2 : tie.Need-shared-slice-read-if1-2 Inv-loop μ-loop
 shared-slice-read-if1-2 c = omega arith
 
-returns : tie.Need-returns Inv-loop μ-loop
-returns c = tells-false (λ all. absurd (omega (arith, all (c .before .before .before .before .loop .t) (omega arith))))
-
 add-t : tie.Need-add-t Inv-loop μ-loop
 add-t c = omega arith
 
@@ -47,10 +47,20 @@ loop-less : tie.Need-loop-less Inv-loop μ-loop
 loop-less c = omega arith
 
 loop-again : tie.Need-loop-again Inv-loop μ-loop
-loop-again c = (omega arith, below-more _ _ (c .before .before .before .before .loop .inv .1) (omega arith))
+loop-again c =
+    let l = c .before .before .before .before .loop in
+    ⊎-elim
+    (λ w. let e : c .if1 .wrong ≡ 1 = omega arith in (omega arith, λ z. absurd (omega arith), λ z all. absurd (omega (arith, all (l .t) (omega arith)))))
+    (λ w. let e : c .if1 .wrong ≡ l .wrong = omega arith in (omega arith, λ z. below-more _ _ (l .inv .1 (omega arith)) (omega arith), λ z all. l .inv .2 (omega arith) (λ x h. all x (omega arith))))
+    (c .if1 .came)
 
-returns-2 : tie.Need-returns-2 Inv-loop μ-loop
-returns-2 c = tells-true (λ t h. c .before .loop .inv .1 t (omega arith))
+returns : tie.Need-returns Inv-loop μ-loop
+returns c =
+    let l = c .before .loop in
+    record {
+      right = λ z t h. l .inv .1 (eqb-true _ _ z) t (omega arith);
+      wrong = λ z all. l .inv .2 (omega (arith, eqb-false)) (λ x h. all x (omega arith));
+    }
 
 pub same-row-spec : {M : Type 1} → statement M
 same-row-spec =
@@ -65,8 +75,7 @@ same-row-spec =
     shared-slice-read-if1
     mul-if1-2
     shared-slice-read-if1-2
-    returns
     add-t
     loop-less
     loop-again
-    returns-2)
+    returns)

@@ -1,6 +1,6 @@
 -- `recognised::source_row` meets its contract.
 -- Assumes nothing.
-use Rattle.recognised.proofs.Matrix.{row-yes, row-no}
+use Rattle.recognised.proofs.Matrix.{row-yes, row-no, row-head, head-row}
 use Rattle.recognised.proofs.Sits.{bytes-of}
 use Rattle.recognised.proofs.Cells.{tells-false}
 use borrow.Author.Tests.{eqb-true, eqb-false}
@@ -9,31 +9,25 @@ use borrow.Author.Needs.{needs}
 use Rattle.recognised.proofs.source_row.Statement.{statement}
 use Rattle.recognised.proofs.source_row.Tie as tie
 
-in-source-requires : tie.Need-in-source-requires
-in-source-requires c κs = search needs
+wide-in-source-requires : tie.Need-wide-in-source-requires
+wide-in-source-requires c κs = search needs
 
 returns : tie.Need-returns
 returns c =
     let s = c .before .before .before in
-    tells-false (λ S. let r = row-no (s .args .plan .now) (bytes-of (s .args .plan .now) (λ i. c .before .before .shared-slice-known .given i .fits)) (s .args .place) (s .args .k) (s .args .s) (s .args .d) (s .pre .0) (s .pre .1) (omega arith) S in omega arith)
+    let B = bytes-of (s .args .plan .now) (λ i. c .before .before .shared-slice-known .given i .fits) in
+    tells-false (λ S. let r = row-no (s .args .plan .now) B (s .args .place) (s .args .k) (s .args .s) (s .args .d) (s .pre .0) (s .pre .1) (omega arith) S in let h = head-row (s .args .plan .now) B (s .args .place) (s .args .k) (s .args .s) (s .args .d) (s .pre .0) (r .0) (r .1) in omega arith)
 
-in-source-requires-2 : tie.Need-in-source-requires-2
-in-source-requires-2 c κs = search needs
+wide-in-source-requires-2 : tie.Need-wide-in-source-requires-2
+wide-in-source-requires-2 c κs = search needs
 
 returns-2 : tie.Need-returns-2
 returns-2 c =
-    let s = c .before .before .before .before .before in
-    tells-false (λ S. let r = row-no (s .args .plan .now) (bytes-of (s .args .plan .now) (λ i. c .before .before .before .before .shared-slice-known .given i .fits)) (s .args .place) (s .args .k) (s .args .s) (s .args .d) (s .pre .0) (s .pre .1) (omega arith) S in omega arith)
-
-wide-in-source-requires : tie.Need-wide-in-source-requires
-wide-in-source-requires c κs = search needs
-
-returns-3 : tie.Need-returns-3
-returns-3 c =
-    let s = c .before .before .before .before .before .before in
-    let B = bytes-of (s .args .plan .now) (λ i. c .before .before .before .before .before .shared-slice-known .given i .fits) in
+    let s = c .before .before .before .before in
+    let B = bytes-of (s .args .plan .now) (λ i. c .before .before .before .shared-slice-known .given i .fits) in
+    let h = row-head (s .args .plan .now) B (s .args .place) (s .args .k) (s .args .s) (s .args .d) (s .pre .0) (s .pre .1) (omega arith) in
     record {
-      right = λ e. row-yes (s .args .plan .now) B (s .args .place) (s .args .k) (s .args .s) (s .args .d) (s .pre .0) (omega arith) (omega arith) (omega (arith, eqb-true));
+      right = λ e. row-yes (s .args .plan .now) B (s .args .place) (s .args .k) (s .args .s) (s .args .d) (s .pre .0) (h .0) (h .1) (omega (arith, eqb-true));
       wrong = λ e S. let r = row-no (s .args .plan .now) B (s .args .place) (s .args .k) (s .args .s) (s .args .d) (s .pre .0) (s .pre .1) (omega arith) S in omega (arith, eqb-false);
     }
 
@@ -41,9 +35,7 @@ pub source-row-spec : {M : Type 1} → statement M
 source-row-spec =
     tie.close
     (tie.spec
-    in-source-requires
-    returns
-    in-source-requires-2
-    returns-2
     wide-in-source-requires
-    returns-3)
+    returns
+    wide-in-source-requires-2
+    returns-2)
