@@ -1,37 +1,35 @@
 // Walks by edge positions: a witness of a closed walk without delay, its check, and a path that attains a minimum.
 ghost use mathlib.Core.Path.{_≡_};
-ghost use Prim.Native.Nat.{ℕ, _+_, _-_, _<_, _≤_};
+ghost use Prim.Native.Nat.{_+_, _-_, _<_, _≤_};
 ghost use lib.ListN.{getD, length, replicate};
 ghost use Rattle.plans.specs.Values.{Fits};
-ghost use Rattle.routes.specs.Closed.{after, goesOn, closing, closesZero, listed, accepts};
-ghost use Rattle.routes.specs.Paths.{Answered, Blank, Sought, Attained, markOf, Marked, enters, Back, Written};
-ghost use Rattle.routes.specs.Trails.{Witness, Closing, Witnessed, keepOf, Keeping, leaving, Leaves, Onward, Trail, Standing, Stretch, Moved};
-ghost use Rattle.delays.specs.Graph.{far, minimumOf};
-ghost use Rattle.delays.specs.Cells.{grid, Held, Inside};
+ghost use Rattle.routes.specs.Closed.{accepts};
+ghost use Rattle.routes.specs.Paths.{Answered, Blank, Sought, Attained, Back, Written};
+ghost use Rattle.routes.specs.Trails.{Witness, Closing, Witnessed, leaving, Leaves, Onward, Trail, Standing, Stretch, Moved};
+ghost use Rattle.delays.specs.Graph.{minimumOf};
+ghost use Rattle.delays.specs.Cells.{Held};
 ghost use Rattle.delays.specs.Search.{first};
 ghost use Rattle.delays.specs.Refusals.{refusalOf};
-ghost use Rattle.basis.specs.Choice.{pick, both};
-ghost use lib.Dec.{eqb};
-use delays::Reach;
+
+mod circle;
+mod keeping;
+mod marking;
+
+use crate::circle::closes;
+use crate::keeping::keep;
+use crate::keeping::leaving;
+use crate::keeping::shift;
+use crate::marking::ALONE;
+use crate::marking::EDGES;
+use crate::marking::NOT;
+use crate::marking::entering;
+use crate::marking::mark;
+use crate::marking::wide;
 use plans::Plan;
-use plans::Reading;
 use plans::Refusal;
 
 // The most edges that a walk lists.
 const MOST: usize = 32;
-
-// The places of a table of edges.
-const EDGES: usize = 256;
-
-// Marks of an edge: attains a minimum alone, after another, not at all.
-const ALONE: u8 = 2;
-
-const AFTER: u8 = 1;
-
-const NOT: u8 = 0;
-
-// The mark of an edge that a search for a witness may follow.
-const KEPT: u8 = 1;
 
 // A walk by the positions of its edges; only the first `count` places are read.
 pub struct Walk {
@@ -52,73 +50,6 @@ struct Span {
     end: usize,
 }
 
-// The place after i of n, the first after the last.
-fn after(n: usize, i: usize) -> usize
-    requires { ⌜ i < n ⌝ }
-    ensures { λ r. ⌜ r ≡ after n i ⌝ }
-{
-    let k = i + 1;
-    if k == n { 0 } else { k }
-}
-
-// Whether, of m edges, x has no delay and leads to where y leaves.
-fn goes_on(sources: &[u8], targets: &[u8], delays: &[u64], m: usize, x: u64, y: u64) -> bool
-    requires { ⌜ (m ≤ 256) × (length (now sources) ≡ 256) × (length (now targets) ≡ 256) × (length (now delays) ≡ 256) ⌝ }
-    ensures { λ r. ⌜ r ≡ goesOn (now (sources .entry)) (now (targets .entry)) (now (delays .entry)) m x y ⌝ }
-{
-    let i = x as usize;
-    let j = y as usize;
-    if m <= i {
-        return false;
-    }
-    if m <= j {
-        return false;
-    }
-    if delays[i] != 0 {
-        return false;
-    }
-    targets[i] == sources[j]
-}
-
-// Whether each of the n positions goes on to the one after it, the last to the first.
-fn closing(
-    sources: &[u8],
-    targets: &[u8],
-    delays: &[u64],
-    m: usize,
-    n: usize,
-    edges: &[u64],
-) -> bool
-    requires { ⌜ (m ≤ 256) × (length (now sources) ≡ 256) × (length (now targets) ≡ 256) × (length (now delays) ≡ 256) × (n ≤ length (now edges)) ⌝ }
-    ensures { λ r. ⌜ r ≡ closing (now (sources .entry)) (now (targets .entry)) (now (delays .entry)) m n (now (edges .entry)) ⌝ }
-{
-    let mut i: usize = 0;
-    while i < n {
-        let k = after(n, i);
-        if !goes_on(sources, targets, delays, m, edges[i], edges[k]) {
-            return false;
-        }
-        i += 1;
-    }
-    true
-}
-
-// Whether the walk is a closed one without delay of the plan.
-fn closes(plan: Plan, walk: Walk) -> bool
-    requires { ⌜ Fits plan × (walk .count ≤ 32) ⌝ }
-    ensures { λ r. ⌜ r ≡ closesZero plan (listed walk) ⌝ }
-{
-    if walk.count == 0 {
-        return false;
-    }
-    let sources = plan.sources;
-    let targets = plan.targets;
-    let delays = plan.delays;
-    let edges = walk.edges;
-    let n = walk.count;
-    closing(&sources, &targets, &delays, plan.edges, n, &edges)
-}
-
 // Whether the walk is one of 1 to 32 edges without delay, of the plan in these bytes, that ends where it starts. None is
 // for bytes that are refused with 1 to 7.
 pub fn check_witness(bytes: &[u8], walk: Walk) -> bool
@@ -134,126 +65,6 @@ pub fn check_witness(bytes: &[u8], walk: Walk) -> bool
     }
     let plan = reading.plan;
     closes(plan, walk)
-}
-
-fn wide(x: u8) -> usize
-    ensures { λ r. ⌜ r ≡ x ⌝ }
-{
-    x as usize
-}
-
-// Whether u and d together are v.
-fn together(u: u64, d: u64, v: u64) -> bool
-    ensures { λ r. ⌜ r ≡ eqb (u + d) v ⌝ }
-{
-    if u <= v {
-        return v - u == d;
-    }
-    false
-}
-
-// Whether the minimum delay from s to t, and d more, is v.
-fn adds(kind: &[u8], value: &[u64], s: usize, t: usize, d: u64, v: u64) -> bool
-    requires { ⌜ (length (now kind) ≡ 1024) × (length (now value) ≡ 1024) × (s < 32) × (t < 32) ⌝ }
-    ensures { λ r. ⌜ r ≡ eqb (grid (now (kind .entry)) (now (value .entry)) s t + d) v ⌝ }
-{
-    let reach = delays::read_reach(kind, value, s, t);
-    match reach {
-        Reach::At(u) => together(u, d, v),
-        Reach::TooFar => false,
-        Reach::None => false,
-    }
-}
-
-// Whether an edge that leaves s with delay d leaves `from` and attains v alone.
-fn alone(from: usize, s: usize, d: u64, v: u64) -> bool
-    ensures { λ r. ⌜ r ≡ both (eqb s from) (eqb d v) ⌝ }
-{
-    if s == from {
-        return d == v;
-    }
-    false
-}
-
-// The mark of an edge that leaves s with delay d, to a member whose minimum from `from` is v.
-fn mark_to(kind: &[u8], value: &[u64], from: usize, s: usize, d: u64, v: u64) -> u8
-    requires { ⌜ (length (now kind) ≡ 1024) × (length (now value) ≡ 1024) × (from < 32) × (s < 32) ⌝ }
-    ensures { λ r. ⌜ r ≡ pick (both (eqb s from) (eqb d v)) 2 (pick (eqb (grid (now (kind .entry)) (now (value .entry)) from s + d) v) 1 0) ⌝ }
-{
-    if alone(from, s, d, v) {
-        return ALONE;
-    }
-    if adds(kind, value, from, s, d, v) {
-        return AFTER;
-    }
-    NOT
-}
-
-// The mark of an edge from s to t with delay d.
-fn mark_of(kind: &[u8], value: &[u64], from: usize, s: usize, t: usize, d: u64) -> u8
-    requires { ⌜ (length (now kind) ≡ 1024) × (length (now value) ≡ 1024) × (from < 32) × (s < 32) × (t < 32) ⌝ }
-    ensures { λ r. ⌜ r ≡ markOf (grid (now (kind .entry)) (now (value .entry)) from) from s t d ⌝ }
-{
-    let reach = delays::read_reach(kind, value, from, t);
-    match reach {
-        Reach::At(v) => mark_to(kind, value, from, s, d, v),
-        Reach::TooFar => NOT,
-        Reach::None => NOT,
-    }
-}
-
-// Marks each of m edges by the minimum delays from `from`.
-fn mark(
-    sources: &[u8],
-    targets: &[u8],
-    delays: &[u64],
-    m: usize,
-    kind: &[u8],
-    value: &[u64],
-    from: usize,
-    marks: &mut [u8],
-)
-    requires { ⌜ (length (now kind) ≡ 1024) × (length (now value) ≡ 1024) × (from < 32) × Inside (now sources) (now targets) (now delays) m 32 × (m ≤ length (now marks)) ⌝ }
-    ensures { λ _. ⌜ Marked (now (sources .entry)) (now (targets .entry)) (now (delays .entry)) m (grid (now (kind .entry)) (now (value .entry)) from) from (now (marks .entry)) (now (marks .exit)) × ((i : ℕ) → getD (now (delays .entry)) i 0 < far) ⌝ }
-{
-    let mut i: usize = 0;
-    while i < m {
-        marks[i] = mark_of(
-            kind,
-            value,
-            from,
-            wide(sources[i]),
-            wide(targets[i]),
-            delays[i],
-        );
-        i += 1;
-    }
-}
-
-// Whether edge e is marked and leads to `at`.
-fn enters(targets: &[u8], marks: &[u8], at: usize, e: usize) -> bool
-    requires { ⌜ (length (now targets) ≡ 256) × (length (now marks) ≡ 256) × (e < 256) ⌝ }
-    ensures { λ r. ⌜ r ≡ enters (now (targets .entry)) (now (marks .entry)) at e ⌝ }
-{
-    if wide(targets[e]) == at {
-        return marks[e] != NOT;
-    }
-    false
-}
-
-// The first marked edge that leads to `at`, or 256.
-fn entering(targets: &[u8], marks: &[u8], at: usize) -> usize
-    requires { ⌜ (length (now targets) ≡ 256) × (length (now marks) ≡ 256) ⌝ }
-    ensures { λ r. ⌜ r ≡ first (enters (now (targets .entry)) (now (marks .entry)) at) 0 256 ⌝ }
-{
-    let mut e: usize = 0;
-    while e < EDGES {
-        if enters(targets, marks, at, e) {
-            return e;
-        }
-        e += 1;
-    }
-    EDGES
 }
 
 // Goes back from `at` by marked edges to one that attains its minimum alone, and writes the edges from there on to the
@@ -361,64 +172,6 @@ pub fn path(bytes: &[u8], from: u64, to: u64) -> Found
     path_in(plan, from as usize, to as usize)
 }
 
-// Whether the minimum delay from s to t is 0.
-fn no_delay(kind: &[u8], value: &[u64], s: usize, t: usize) -> bool
-    requires { ⌜ (length (now kind) ≡ 1024) × (length (now value) ≡ 1024) × (s < 32) × (t < 32) ⌝ }
-    ensures { λ r. ⌜ r ≡ eqb (grid (now (kind .entry)) (now (value .entry)) s t) 0 ⌝ }
-{
-    let reach = delays::read_reach(kind, value, s, t);
-    match reach {
-        Reach::At(d) => d == 0,
-        Reach::TooFar => false,
-        Reach::None => false,
-    }
-}
-
-// 1 if an edge to t with delay d has none, and t has a minimum of 0 to the member `home`; else 0.
-fn keep_of(kind: &[u8], value: &[u64], home: usize, t: usize, d: u64) -> u8
-    requires { ⌜ (length (now kind) ≡ 1024) × (length (now value) ≡ 1024) × (home < 32) × (t < 32) ⌝ }
-    ensures { λ r. ⌜ r ≡ keepOf (grid (now (kind .entry)) (now (value .entry))) home t d ⌝ }
-{
-    if d != 0 {
-        return NOT;
-    }
-    if no_delay(kind, value, t, home) {
-        return KEPT;
-    }
-    NOT
-}
-
-// Marks which of m edges are kept.
-fn keep(
-    targets: &[u8],
-    delays: &[u64],
-    m: usize,
-    kind: &[u8],
-    value: &[u64],
-    home: usize,
-    kept: &mut [u8],
-)
-    requires { ⌜ (length (now kind) ≡ 1024) × (length (now value) ≡ 1024) × (home < 32) × (m ≤ length (now targets)) × (m ≤ length (now delays)) × (m ≤ length (now kept)) × ((i : ℕ) → i < m → getD (now targets) i 0 < 32) ⌝ }
-    ensures { λ _. ⌜ Keeping (now (targets .entry)) (now (delays .entry)) m (grid (now (kind .entry)) (now (value .entry))) home (now (kept .entry)) (now (kept .exit)) × ((i : ℕ) → getD (now (delays .entry)) i 0 < far) ⌝ }
-{
-    let mut i: usize = 0;
-    while i < m {
-        kept[i] = keep_of(kind, value, home, wide(targets[i]), delays[i]);
-        i += 1;
-    }
-}
-
-// Whether edge e is kept and leaves the member.
-fn leaving(sources: &[u8], kept: &[u8], member: usize, e: usize) -> bool
-    requires { ⌜ (length (now sources) ≡ 256) × (length (now kept) ≡ 256) × (e < 256) ⌝ }
-    ensures { λ r. ⌜ r ≡ leaving (now (sources .entry)) (now (kept .entry)) member e ⌝ }
-{
-    if wide(sources[e]) == member {
-        return kept[e] != NOT;
-    }
-    false
-}
-
 // Visits a member, `depth` edges on, and goes along kept edges until a member repeats: the places of `out` between.
 fn visit(
     sources: &[u8],
@@ -463,18 +216,6 @@ fn scan(
         };
     }
     visit(sources, targets, kept, seen, out, t, depth + 1)
-}
-
-// Moves n places of `out`, from `start` on, to the front of `edges`.
-fn shift(out: &[u64], start: usize, n: usize, edges: &mut [u64])
-    requires { ⌜ (start + n ≤ length (now out)) × (n ≤ length (now edges)) ⌝ }
-    ensures { λ _. ⌜ Moved (now (out .entry)) (now (edges .entry)) (now (edges .exit)) start n ⌝ }
-{
-    let mut i: usize = 0;
-    while i < n {
-        edges[i] = out[start + i];
-        i += 1;
-    }
 }
 
 // The walk of the places of `out` from `start` up to `end`.

@@ -14,8 +14,8 @@ use Rattle.routes.proofs.+scan+visit.Lts-scan as scan-lts
 use Rattle.routes.proofs.visit.Reads as visit
 use Rattle.routes.proofs.visit.Kinds as visit-kinds
 use Rattle.routes.proofs.+scan+visit.Lts-visit as visit-lts
-use Rattle.routes.proofs.leaving.Reads as leaving-reads
-use Rattle.routes.proofs.wide.Reads as wide-reads
+use Rattle.routes.proofs.keeping.leaving.Reads as leaving-reads
+use Rattle.routes.proofs.marking.wide.Reads as wide-reads
 use Rattle.routes.proofs.+scan+visit.{statement}
 use Rattle.routes.proofs.+scan+visit.Tie.{close}
 

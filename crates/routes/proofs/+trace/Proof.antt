@@ -9,8 +9,8 @@ use borrow.Fn.PlainCycle.{Measures, is, falls, and}
 use Rattle.routes.proofs.trace.Reads as trace
 use Rattle.routes.proofs.trace.Kinds as trace-kinds
 use Rattle.routes.proofs.+trace.Lts-trace as trace-lts
-use Rattle.routes.proofs.entering.Reads as entering-reads
-use Rattle.routes.proofs.wide.Reads as wide-reads
+use Rattle.routes.proofs.marking.entering.Reads as entering-reads
+use Rattle.routes.proofs.marking.wide.Reads as wide-reads
 use Rattle.routes.proofs.+trace.{statement}
 use Rattle.routes.proofs.+trace.Tie.{close}
 
