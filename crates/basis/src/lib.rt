@@ -1,4 +1,6 @@
 // What every floor stands on: choice by a test, lists cut into parts, little-endian numbers in byte slices.
+#![tactic(auto)]
+
 ghost use Rattle.std.specs.Prelude.{◌≡◌, ◌+◌, ◌≤◌, length, get_or};
 ghost use Rattle.basis.specs.Numbers.{bytes, number_at};
 ghost use Rattle.basis.specs.Parts.{replaced};

@@ -1,5 +1,7 @@
 // Times the coordinator on a workload: a plan, an opening and requests on standard input, in the script's words. It says what was
 // answered, in numbers that another coordinator can be held to; and, for a line `passes N`, the least times of N passes.
+#![tactic(auto)]
+
 ghost use Rattle.std.specs.Prelude.{◌≤◌, length};
 
 mod timing;

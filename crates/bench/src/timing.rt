@@ -19,7 +19,7 @@ const FACTOR: u64 = 1000003;
 
 // What requests were answered with: the state, the sum of the refusals, how many deliveries were sent, the digest of their words
 // if it was asked for, and the time that the steady requests took.
-#[derive(Drop)]
+#[derive(Clone, Copy)]
 pub struct Heard {
     pub state: State,
     pub refused: u64,
@@ -29,7 +29,7 @@ pub struct Heard {
 }
 
 // The least times that passes took for the steady requests, for compiling and for recognising.
-#[derive(Drop)]
+#[derive(Clone, Copy)]
 pub struct Times {
     pub requests: u64,
     pub compiles: u64,

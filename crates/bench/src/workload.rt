@@ -7,7 +7,7 @@ use text::{Found, WINDOW, Window};
 pub const REQUEST: usize = 7;
 
 // What a workload says, besides its plan and its requests.
-#[derive(Drop)]
+#[derive(Clone, Copy)]
 pub struct Work {
     // bytes of the plan
     pub size: usize,
@@ -20,7 +20,7 @@ pub struct Work {
 }
 
 // A workload that is being read: the window on its lines, what it says so far, and whether there may be more.
-#[derive(Drop)]
+#[derive(Clone, Copy)]
 struct Turn {
     window: Window,
     work: Work,

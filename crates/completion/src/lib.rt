@@ -1,4 +1,6 @@
 // Completion: one member's record is lent and changed in place, above the rule by value (`records::completed`).
+#![tactic(auto)]
+
 ghost use Rattle.std.specs.Prelude.{◌≡◌};
 ghost use Rattle.records.specs.Records.{completed_record};
 

@@ -1,5 +1,7 @@
 // Delays between the members of a plan: direct, and minimum over all paths of one or more edges; refusals 8 and 9.
 // A matrix of delays is two slices of 1024, 32 entries to a row: a kind byte and a word for each pair of members.
+#![tactic(auto)]
+
 ghost use Rattle.std.specs.Prelude.{◌≡◌, ℕ, ◌+◌, ◌*◌, ◌<◌, ◌≤◌, min, get_or, length, eqb};
 ghost use Rattle.plans.specs.Values.{Fits};
 ghost use Rattle.delays.specs.Graph.{far, none, plus, next, via, direct, reach_of, direct_of, minimum_of};
@@ -30,14 +32,14 @@ const ZERO_CYCLE: u64 = 8;
 const TOO_FAR: u64 = 9;
 
 // How far: kind 0 is `value`, 1 too far, anything else no path.
-#[derive(Drop)]
+#[derive(Clone, Copy)]
 pub struct Dist {
     pub kind: u8,
     pub value: u64,
 }
 
 // What is known of a pair: the least delay, that it is past the largest number, or that there is no path.
-#[derive(Drop)]
+#[derive(Clone, Copy)]
 pub enum Reach {
     At(u64),
     TooFar,

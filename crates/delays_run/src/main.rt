@@ -1,4 +1,6 @@
 // Small plans at work: the refusal of each, then its direct and its minimum delays, a row for each source.
+#![tactic(auto)]
+
 ghost use Rattle.std.specs.Prelude.{◌≡◌, ◌+◌, ◌<◌, ◌≤◌, length};
 ghost use Rattle.plans.specs.Values.{Fits};
 ghost use Rattle.delays_run.specs.Built.{Built};

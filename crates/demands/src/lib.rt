@@ -1,1 +1,2 @@
 // The user's demands as theorems: specs/ states them, proofs/ shows them. No function.
+#![tactic(auto)]

@@ -1,4 +1,6 @@
 // The compiled plan, written.
+#![tactic(auto)]
+
 ghost use Rattle.std.specs.Prelude.{◌≡◌, ℕ, ◌+◌, ◌*◌, ◌<◌, ◌≤◌, List, [], ◌∷◌, ◌++◌, get_or, length};
 ghost use Rattle.basis.specs.Choice.{pick};
 ghost use Rattle.basis.specs.Numbers.{bytes};
@@ -33,7 +35,7 @@ const ROW: usize = 32;
 const ENTRIES: usize = 1024;
 
 // The outcome of compiling: why not, or the bytes written.
-#[derive(Drop)]
+#[derive(Clone, Copy)]
 pub struct Compiled {
     pub refusal: Refusal,
     pub total: usize,

@@ -1,5 +1,7 @@
 // Plans compiled, case by case: the refusal and what it gives, the total, the sum of the bytes written, how many bytes of the
 // output are as they were, and for small plans every u32 of the image.
+#![tactic(auto)]
+
 ghost use Rattle.std.specs.Prelude.{◌<◌, ◌≤◌, length};
 
 use image::Compiled;
@@ -11,7 +13,7 @@ const MOST: usize = 8728;
 const OUT: usize = 32000;
 
 // An output, and how many bytes of it are written.
-#[derive(Drop)]
+#[derive(Clone, Copy)]
 struct Written {
     out: [u8; OUT],
     total: usize,

@@ -1,4 +1,6 @@
 // What one request is refused with inside a session, and what each kind does to the state and the slab.
+#![tactic(auto)]
+
 ghost use Rattle.std.specs.Prelude.{◌≡◌, true, [], ◌∷◌, ◌+◌, ◌*◌, ◌<◌, ◌≤◌, eqb, length};
 ghost use Rattle.basis.specs.Choice.{both, not};
 ghost use Rattle.transit.specs.Tags.{holds};
@@ -47,7 +49,7 @@ pub const FULL: u64 = 30;
 pub const CONFIRMATION: u64 = 31;
 
 // What a request sends before anything else: nothing, or one delivery.
-#[derive(Drop)]
+#[derive(Clone, Copy)]
 pub enum First {
     Nothing,
     Sends(Delivery),

@@ -1,4 +1,6 @@
 // Well-formed states (refusal 14), and the three rules: earliest, horizon, bound.
+#![tactic(auto)]
+
 ghost use Rattle.std.specs.Prelude.{◌≡◌, ◌+◌, ◌*◌, ◌-◌, ◌<◌, ◌≤◌, length};
 ghost use Rattle.basis.specs.Choice.{both, either};
 ghost use Rattle.transit.specs.Tags.{within, limit};

@@ -1,4 +1,6 @@
 // The passes over members that end a step: grants, Idle, bounds; and what goes to all.
+#![tactic(auto)]
+
 ghost use Rattle.std.specs.Prelude.{◌≡◌, ◌+◌, ◌*◌, ◌<◌, ◌≤◌, length};
 ghost use Rattle.basis.specs.Choice.{both};
 ghost use Rattle.states.specs.Steps.{every};
@@ -11,14 +13,14 @@ use states::{Delivery, MemberState, State};
 use tags::Tag;
 
 // A step so far: the state, and how many deliveries are sent.
-#[derive(Drop)]
+#[derive(Clone, Copy)]
 pub struct Progress {
     pub state: State,
     pub sent: usize,
 }
 
 // One member's turn: its record, and how many deliveries are sent.
-#[derive(Drop)]
+#[derive(Clone, Copy)]
 pub struct Told {
     pub member: MemberState,
     pub sent: usize,

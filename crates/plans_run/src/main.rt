@@ -1,4 +1,6 @@
 // Plan bytes read, case by case: what is answered, written out.
+#![tactic(auto)]
+
 ghost use Rattle.std.specs.Prelude.{◌≤◌};
 
 use libc::STDOUT_FILENO;

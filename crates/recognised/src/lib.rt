@@ -1,5 +1,7 @@
 // Whether bytes are the compiled plan of their own members and edges. Every call of a session asks it, so the minimum
 // delays are not worked out again: the claimed ones are checked against one step along each edge.
+#![tactic(auto)]
+
 ghost use Rattle.std.specs.Prelude.{◌≡◌, ℕ, ◌<◌};
 ghost use Rattle.rows.specs.Rows.{members, edges};
 ghost use Rattle.recognised.specs.Facts.{MemberRight, Routed};

@@ -1,4 +1,6 @@
 // Judges the byte strings on standard input, each after its length in four bytes: 0, or the number of its refusal.
+#![tactic(auto)]
+
 ghost use Rattle.std.specs.Prelude.{◌<◌, ◌≤◌, length};
 
 fn show(refusal: u64) {

@@ -1,4 +1,6 @@
 // The record of one member: rules that read it, and its changes.
+#![tactic(auto)]
+
 ghost use Rattle.std.specs.Prelude.{◌≡◌};
 ghost use Rattle.tags.specs.Tags.{tag_le, tag_before, same_tag, delayed};
 ghost use Rattle.states.specs.Sessions.{or_never};

@@ -1,4 +1,6 @@
 // Requests and deliveries as seven words, and the table of phases.
+#![tactic(auto)]
+
 ghost use Rattle.std.specs.Prelude.{◌≡◌, ◌+◌, ◌*◌, ◌≤◌, length};
 ghost use Rattle.basis.specs.Parts.{replaced};
 ghost use Rattle.states.specs.Steps.{lifecycle};
@@ -25,7 +27,7 @@ const WORDS: usize = 7;
 const PHASES: usize = 5;
 
 // What three words say of a tag: that there is none (class 3), a tag, or nothing.
-#[derive(Drop)]
+#[derive(Clone, Copy)]
 pub enum Spoken {
     Nothing,
     Tagged(Tag),
@@ -33,14 +35,14 @@ pub enum Spoken {
 }
 
 // What five words ask: a request, or nothing.
-#[derive(Drop)]
+#[derive(Clone, Copy)]
 pub enum Form {
     Asks(Request),
     Malformed,
 }
 
 // What seven words ask: the refusal's number (0: none), the member word and the request. Refused: member 0 and Stop.
-#[derive(Drop)]
+#[derive(Clone, Copy)]
 pub struct Asked {
     pub number: u64,
     pub member: u64,
@@ -48,7 +50,7 @@ pub struct Asked {
 }
 
 // The seven words of a delivery.
-#[derive(Drop)]
+#[derive(Clone, Copy)]
 pub struct Sheet {
     pub member: u64,
     pub kind: u64,
@@ -60,7 +62,7 @@ pub struct Sheet {
 }
 
 // Where a member stands in a session: not joined, waiting for another, running, idle, stopped.
-#[derive(Drop)]
+#[derive(Clone, Copy)]
 pub enum Phase {
     Absent,
     Waiting,

@@ -1,4 +1,6 @@
 // Walks by edge positions: a witness of a closed walk without delay, its check, and a path that attains a minimum.
+#![tactic(auto)]
+
 ghost use Rattle.std.specs.Prelude.{◌≡◌, ◌+◌, ◌-◌, ◌<◌, ◌≤◌, get_or, length, replicate};
 ghost use Rattle.plans.specs.Values.{Fits};
 ghost use Rattle.routes.specs.Closed.{accepts};
@@ -22,14 +24,14 @@ use plans::{Plan, Refusal};
 const MOST: usize = 32;
 
 // A walk by the positions of its edges; only the first `count` places are read.
-#[derive(Drop)]
+#[derive(Clone, Copy)]
 pub struct Walk {
     pub count: usize,
     pub edges: [u64; 32],
 }
 
 // The outcome of a search: a refusal, or none and the walk, count 0 where there is none. Unused places are 0.
-#[derive(Drop)]
+#[derive(Clone, Copy)]
 pub struct Found {
     pub refusal: Refusal,
     pub count: usize,
@@ -37,7 +39,7 @@ pub struct Found {
 }
 
 // Places of a walk: from `start` up to `end`, which is not among them.
-#[derive(Drop)]
+#[derive(Clone, Copy)]
 struct Span {
     start: usize,
     end: usize,

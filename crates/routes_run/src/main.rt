@@ -1,5 +1,7 @@
 // Plans at work: of those with a closed walk without delay a witness, the check of it, and of three damaged ones; of the
 // others paths, with the sum of their delays.
+#![tactic(auto)]
+
 ghost use Rattle.std.specs.Prelude.{◌≡◌, ◌+◌, ◌*◌, ◌<◌, ◌≤◌, length};
 
 use routes::{Found, Walk};

@@ -1,5 +1,7 @@
 // The compiled plan, read by rows: each reader answers one field, by plain offsets. The bytes are laid out as a compiled
 // plan (`Laid`); positions and rows are those that exist.
+#![tactic(auto)]
+
 ghost use Rattle.std.specs.Prelude.{◌≡◌, ◌+◌, ◌*◌, ◌<◌, ◌≤◌, length};
 ghost use Rattle.basis.specs.Numbers.{number_at};
 ghost use Rattle.rows.specs.Rows.{header_size, member_size, edge_size, source_size, target_size, field, Laid, members, edges, directs, transitives, downstreams, edges_at, directs_at, transitives_at, downstreams_at, member_id, capacity, direct_first, direct_count, transitive_first, transitive_count, downstream_first, downstream_count, member_zero, edge_id, edge_source, edge_target, edge_delay, direct_source, direct_zero, direct_delay, transitive_source, transitive_zero, transitive_delay, downstream_target};

@@ -1,4 +1,6 @@
 // The coordinator: open a session on a compiled plan, ask it, abort it, and whether it is finished.
+#![tactic(auto)]
+
 ghost use Rattle.std.specs.Prelude.{◌≡◌, [], ◌+◌, ◌*◌, ◌≤◌, length};
 ghost use Rattle.states.specs.Sessions.{fresh};
 ghost use Rattle.members.specs.Codes.{state_of, slab_of};
@@ -8,7 +10,7 @@ use passes::Progress;
 use states::State;
 
 // What an opening or a call answers: the refusal's number (0: none), how many deliveries are sent, and the state.
-#[derive(Drop)]
+#[derive(Clone, Copy)]
 pub struct Answer {
     pub refusal: u64,
     pub count: usize,

@@ -74,7 +74,7 @@ pub const CAUSE: u64 = 1010;
 pub const IDLE: u64 = 1011;
 
 // The state, the slab, and how many words are lent of the slab, of deliveries and of a request.
-#[derive(Drop)]
+#[derive(Clone, Copy)]
 pub struct Desk {
     pub state: State,
     pub slab: [u64; SLAB],

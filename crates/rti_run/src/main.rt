@@ -1,5 +1,7 @@
 // Sessions at work, by open, handle, abort and finished alone. Each call stands as a line of a script; below it, two spaces in, what
 // is answered and what it leaves.
+#![tactic(auto)]
+
 mod cases;
 mod causes;
 mod desk;

@@ -11,7 +11,7 @@ const PLAN: usize = 120;
 const IMAGE: usize = 300;
 
 // Bytes that a host takes for a compiled plan.
-#[derive(Drop)]
+#[derive(Clone, Copy)]
 pub struct Image {
     pub bytes: [u8; IMAGE],
     pub total: usize,

@@ -7,7 +7,7 @@ use crate::session::{ROOM, SLAB, Session, least, say_error, say_number, say_refu
 const MOST: u64 = 31920;
 
 // The bytes that a word says, and where it ends in its line.
-#[derive(Drop)]
+#[derive(Clone, Copy)]
 pub struct Given {
     pub good: bool,
     pub count: usize,

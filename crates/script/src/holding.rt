@@ -210,26 +210,26 @@ pub fn word(line: &[u8], from: usize, slab: &mut [u64], out: &mut [u8], s: Sessi
 }
 
 // A limit that words say, if they do.
-#[derive(Drop)]
+#[derive(Clone, Copy)]
 struct SaidLimit {
     good: bool,
     limit: Limit,
 }
 
 // A revision or none.
-#[derive(Drop)]
+#[derive(Clone, Copy)]
 struct SaidMark {
     good: bool,
     mark: Mark,
 }
 
-#[derive(Drop)]
+#[derive(Clone, Copy)]
 struct SaidPublication {
     good: bool,
     publication: Publication,
 }
 
-#[derive(Drop)]
+#[derive(Clone, Copy)]
 struct SaidMember {
     good: bool,
     member: MemberState,

@@ -1,4 +1,6 @@
 // The script language over the entries: commands on standard input, one a line; answers on standard output.
+#![tactic(auto)]
+
 mod calling;
 mod compiling;
 mod holding;
@@ -9,7 +11,7 @@ use crate::session::{BYTES, OUT, SLAB, Session, say_error};
 use text::{Found, WINDOW, Window};
 
 // A script under way: the window on its lines, what it holds, and whether there may be more.
-#[derive(Drop)]
+#[derive(Clone, Copy)]
 struct Turn {
     window: Window,
     session: Session,
@@ -17,7 +19,7 @@ struct Turn {
 }
 
 // The first word of a line.
-#[derive(Drop)]
+#[derive(Clone, Copy)]
 enum Command {
     Plan,
     Image,

@@ -19,7 +19,7 @@ pub const ROOM: usize = 512;
 pub const AS_ASKED: usize = 4096;
 
 // What a script holds, besides its buffers.
-#[derive(Drop)]
+#[derive(Clone, Copy)]
 pub struct Session {
     pub state: State,
     // bytes of the compiled plan in use

@@ -1,39 +1,41 @@
 // What a session holds: a record for each member, the identity, and what ended it; requests and deliveries.
+#![tactic(auto)]
+
 ghost use Rattle.std.specs.Prelude.{◌≡◌};
 ghost use Rattle.states.specs.Records.{blank_record, fresh_state};
 
 use tags::Tag;
 
 // The next event, or that there is none.
-#[derive(Drop)]
+#[derive(Clone, Copy)]
 pub enum Next {
     Quiet,
     Event(Tag),
 }
 
 // The latest local publication: its revision and the next event. Unpublished means no information yet.
-#[derive(Drop)]
+#[derive(Clone, Copy)]
 pub enum Publication {
     Unpublished,
     Published(u64, Next),
 }
 
 // A revision, or none yet.
-#[derive(Drop)]
+#[derive(Clone, Copy)]
 pub enum Mark {
     Unset,
     At(u64),
 }
 
 // A tag that something reaches up to, or none yet.
-#[derive(Drop)]
+#[derive(Clone, Copy)]
 pub enum Limit {
     Absent,
     Upto(Tag),
 }
 
 // One member's record.
-#[derive(Drop)]
+#[derive(Clone, Copy)]
 pub struct MemberState {
     // whether it passed admission
     pub joined: bool,
@@ -59,7 +61,7 @@ pub struct MemberState {
 
 // A session's state: a record for each member, then blank ones; the identity that members have to name; what ended the
 // session (0: nothing), and the abort code with it.
-#[derive(Drop)]
+#[derive(Clone, Copy)]
 pub struct State {
     pub members: [MemberState; 32],
     pub count: usize,
@@ -69,7 +71,7 @@ pub struct State {
 }
 
 // What a member asks.
-#[derive(Drop)]
+#[derive(Clone, Copy)]
 pub enum Request {
     Hello(u64),
     Publish(u64, Next),
@@ -81,7 +83,7 @@ pub enum Request {
 }
 
 // What is sent; the first number is the member that it goes to.
-#[derive(Drop)]
+#[derive(Clone, Copy)]
 pub enum Delivery {
     Started(u64),
     Grant(u64, u64, Tag),

@@ -1,4 +1,6 @@
 // One step of a session, and the owner's abort: the state, the slab and the delivery words as the session's step leaves them.
+#![tactic(auto)]
+
 ghost use Rattle.std.specs.Prelude.{◌≡◌, ◌+◌, ◌*◌, ◌<◌, ◌≤◌, length};
 ghost use Rattle.states.specs.Formed.{FitsRequest};
 ghost use Rattle.states.specs.Steps.{code_of, refusal_of, accepted, answered, step as step_of, abandon as abandonOf};

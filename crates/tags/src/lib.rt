@@ -1,9 +1,11 @@
 // Tags: points of logical time, their order, and what a delay does to them.
+#![tactic(auto)]
+
 ghost use Rattle.std.specs.Prelude.{◌≡◌};
 ghost use Rattle.tags.specs.Tags.{pred_of, less_of, delay_of, tag_le, tag_before, same_tag, least_of, greatest_of, words_of, told_by};
 
 // A point of logical time: before all others, an offset with a microstep, or after all others.
-#[derive(Drop)]
+#[derive(Clone, Copy)]
 pub enum Tag {
     Never,
     Finite(u64, u64),
@@ -11,14 +13,14 @@ pub enum Tag {
 }
 
 // A delayed tag, or that its offset passes 2^64-1.
-#[derive(Drop)]
+#[derive(Clone, Copy)]
 pub enum Delayed {
     To(Tag),
     TooFar,
 }
 
 // A tag as three words: class 0 NEVER, 1 finite, 2 FOREVER; offset and microstep are 0 outside class 1.
-#[derive(Drop)]
+#[derive(Clone, Copy)]
 pub struct Words {
     pub class: u64,
     pub offset: u64,
@@ -26,7 +28,7 @@ pub struct Words {
 }
 
 // The tag that three words say, or that they say none.
-#[derive(Drop)]
+#[derive(Clone, Copy)]
 pub enum Told {
     Is(Tag),
     Unknown,

@@ -1,4 +1,6 @@
 // Tags at work: the marked subtractions, delays, predecessors and the order, a line each.
+#![tactic(auto)]
+
 use tags::{Delayed, Tag, Told};
 
 // M, the largest microstep.

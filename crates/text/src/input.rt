@@ -12,7 +12,7 @@ pub const WINDOW: usize = 131200;
 const NEWLINE: u8 = 10;
 
 // What has been read and not yet handed out: the bytes from start to end of the buffer; and whether the input is over.
-#[derive(Drop)]
+#[derive(Clone, Copy)]
 pub struct Window {
     pub start: usize,
     pub end: usize,
@@ -20,7 +20,7 @@ pub struct Window {
 }
 
 // What there is: a line, one that is too long, or nothing more.
-#[derive(Drop)]
+#[derive(Clone, Copy)]
 pub enum Found {
     Text,
     TooLong,
@@ -28,7 +28,7 @@ pub enum Found {
 }
 
 // What was found; a text stands from start to end of the buffer, without its newline; and the window after it.
-#[derive(Drop)]
+#[derive(Clone, Copy)]
 pub struct Line {
     pub found: Found,
     pub start: usize,
@@ -37,7 +37,7 @@ pub struct Line {
 }
 
 // A window in which the first newline, or the end where there is none, has been found.
-#[derive(Drop)]
+#[derive(Clone, Copy)]
 struct Seen {
     start: usize,
     end: usize,

@@ -1,4 +1,6 @@
 // A script as text: lines of standard input, their words, numbers and bytes; answers to standard output.
+#![tactic(auto)]
+
 mod input;
 mod output;
 mod words;

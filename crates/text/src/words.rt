@@ -27,21 +27,21 @@ const LARGEST: u64 = 18446744073709551615;
 const LARGEST_TENTH: u64 = 1844674407370955161;
 
 // The number that a word says; if it says none, not good and 0.
-#[derive(Drop)]
+#[derive(Clone, Copy)]
 pub struct Number {
     pub good: bool,
     pub value: u64,
 }
 
 // How many bytes a word says; if it says none, or more than there is room for, not good and 0.
-#[derive(Drop)]
+#[derive(Clone, Copy)]
 pub struct Bytes {
     pub good: bool,
     pub count: usize,
 }
 
 // How many numbers the rest of a line says; if some word says none, not good and 0.
-#[derive(Drop)]
+#[derive(Clone, Copy)]
 pub struct Numbers {
     pub good: bool,
     pub count: usize,

@@ -1,11 +1,13 @@
 // A view over the loaded compiled plan: its bytes and its counts, with readers of its direct, transitive and downstream rows.
 // Each reader calls a function on plain offsets.
+#![tactic(auto)]
+
 ghost use Rattle.std.specs.Prelude.{◌≡◌, ◌<◌};
 ghost use Rattle.rows.specs.Rows.{Laid, directs, transitives, downstreams, downstream_target};
 ghost use Rattle.views.specs.Views.{counts_of, view_of, direct_row, transitive_row, Shows};
 
 // How many members, edges and rows a compiled plan has.
-#[derive(Drop)]
+#[derive(Clone, Copy)]
 pub struct Counts {
     pub members: usize,
     pub edges: usize,
@@ -15,14 +17,14 @@ pub struct Counts {
 }
 
 // A direct or transitive row: the position of a source, and the delay from it.
-#[derive(Drop)]
+#[derive(Clone, Copy)]
 pub struct Row {
     pub source: usize,
     pub delay: u64,
 }
 
 // A compiled plan that is loaded.
-#[derive(Drop)]
+#[derive(Clone, Copy)]
 pub struct View<'a> {
     pub plan: &'a [u8],
     pub counts: Counts,

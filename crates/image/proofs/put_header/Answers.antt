@@ -1,0 +1,13 @@
+use native.Mathlib.Omega.{arith}
+use Rattle.image.specs.Image.{header_of}
+use Rattle.image.proofs.Rows.{length-header}
+use Rattle.image.proofs.put_header.Goals as goal
+
+pub put_words-requires : goal.put_words-requires
+unfolding header_of
+put_words-requires c = let start = c in
+    (omega (arith, length-header start.args.n start.args.e start.args.d start.args.t start.args.w), (omega arith, (omega arith, (omega arith, (omega arith, (omega arith, (omega arith, (omega arith, (omega arith, (omega arith, (omega arith, (omega arith, (omega arith, (tt))))))))))))))
+
+pub returns : goal.returns
+unfolding header_of
+returns c = c.put_words.ensures

@@ -1,0 +1,31 @@
+use Prim.Native.Nat.{ℕ, ◌-◌}
+use mathlib.Core.List.{List}
+use native.Mathlib.Omega.{arith}
+use lib.ListN.{get_or}
+use Rattle.basis.specs.Numbers.{bytes}
+use Rattle.basis.proofs.Numbers.{length-bytes}
+use Rattle.image.proofs.Tables.{laid-all}
+use Rattle.image.proofs.Puts.{go-first, go-room, go_on, go-length, go-last, small_at}
+use Rattle.image.proofs.put_words.Goals as goal
+
+abbrev word_at : List ℕ → ℕ → List ℕ
+word_at ws k = bytes 4 (get_or ws k 0)
+
+pub loop-k-init : goal.loop-k-init
+loop-k-init c = go-first _ _ _ _ (rw (laid-all (bytes 4) 0 c.args.ws.now) c.requires.0)
+
+pub put_u32-next-requires : goal.put_u32-next-requires
+put_u32-next-requires c = let start = c in
+    (omega (arith, go-room c.loop-k.invariant (omega arith), length-bytes 4 (get_or start.args.ws.now c.loop-k.k 0)), small_at start.args.ws.now c.loop-k.k start.requires.1 (omega arith))
+
+pub loop-k-smaller : goal.loop-k-smaller
+loop-k-smaller c = omega arith
+
+pub loop-k-preserved : goal.loop-k-preserved
+loop-k-preserved c = go_on c.loop-k.invariant (omega arith) c.put_u32-next.ensures
+
+pub shape_of-out : goal.shape_of-out
+shape_of-out c = go-length c.loop-k.invariant (omega arith)
+
+pub returns : goal.returns
+returns c = rw (← laid-all (bytes 4) 0 c.args.ws.now) (go-last c.loop-k.invariant (omega arith))

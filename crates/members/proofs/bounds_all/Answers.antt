@@ -1,0 +1,90 @@
+use Prim.Native.Nat.{◌≤◌, ◌-◌, ◌+◌}
+use mathlib.Core.Path.{◌≡◌, refl}
+use native.Mathlib.Omega.{arith}
+use Rattle.rows.specs.Loops.{over_rows}
+use Rattle.members.specs.Rules.{bounds_to, bounds_in}
+use Rattle.members.proofs.Steps.{bound-more, bounds-more}
+use borrow.Author.Rules.{rules}
+use Rattle.members.proofs.bounds_all.Goals as goal
+
+-- `members::bounds_all` meets its contract.
+
+-- Assumes nothing.
+
+abbrev invariant-loop2 : tie.invariant-loop2
+invariant-loop2 plan earliest n all₀ j t first count c₀ all c = (c ≤ count) × (all ≡ bounds_to plan t j c all₀)
+
+pub loop-j-init : goal.loop-j-init
+unfolding bounds_in
+loop-j-init c = (omega arith, refl)
+
+pub loop-c-init : goal.loop-c-init
+unfolding bounds_to over_rows
+loop-c-init c = (omega arith, refl)
+
+pub overflow_add-k : goal.overflow_add-k
+overflow_add-k c = let l = c in
+    let k = l.before.before.before.before.before.before in
+    let p = k.before.before.before.requires in
+    let h = p.transitive-rows.at k.loop.j (omega arith) in
+    omega arith
+
+pub transitive_source-i-requires : goal.transitive_source-i-requires
+transitive_source-i-requires c = let l = c in
+    let k = l.before.before.before.before.before.before in
+    let p = k.before.before.before.requires in
+    let h = p.transitive-rows.at k.loop.j (omega arith) in
+    (p, omega arith)
+
+pub offset_bounds-all-i : goal.offset_bounds-all-i
+offset_bounds-all-i c = let l = c in
+    let k = l.before.before.before.before.before.before in
+    let p = k.before.before.before.requires in
+    let h = p.transitive-rows.at k.loop.j (omega arith) in
+    let g = p.transitive-sources.at (l.before.before.before.transitive-first.result + l.before.loop2.c) (omega arith) in
+    search rules
+
+pub bounds-all-i : goal.bounds-all-i
+bounds-all-i c = let l = c in
+    let k = l.before.before.before.before.before.before in
+    let p = k.before.before.before.requires in
+    let h = p.transitive-rows.at k.loop.j (omega arith) in
+    let g = p.transitive-sources.at (l.before.before.before.transitive-first.result + l.before.loop2.c) (omega arith) in
+    search rules
+
+pub transitive_delay-requires : goal.transitive_delay-requires
+transitive_delay-requires c = let l = c in
+    let k = l.before.before.before.before.before.before in
+    let p = k.before.before.before.requires in
+    let h = p.transitive-rows.at k.loop.j (omega arith) in
+    (p, omega arith)
+
+pub offset_bounds-all-i-in-loop-c : goal.offset_bounds-all-i-in-loop-c
+offset_bounds-all-i-in-loop-c c = let l = c in
+    let k = l.before.before.before.before.before.before in
+    let p = k.before.before.before.requires in
+    let h = p.transitive-rows.at k.loop.j (omega arith) in
+    let g = p.transitive-sources.at (l.before.before.before.transitive-first.result + l.before.loop2.c) (omega arith) in
+    search rules
+
+pub bounds-all-i-in-loop-c : goal.bounds-all-i-in-loop-c
+bounds-all-i-in-loop-c c = let l = c in
+    let k = l.before.before.before.before.before.before in
+    let p = k.before.before.before.requires in
+    let h = p.transitive-rows.at k.loop.j (omega arith) in
+    let g = p.transitive-sources.at (l.before.before.before.transitive-first.result + l.before.loop2.c) (omega arith) in
+    search rules
+
+pub loop-c-preserved : goal.loop-c-preserved
+loop-c-preserved c = let l = c in
+    let source = c.transitive_source-i in (
+      omega arith,
+      bound-more _ _ _ _ _ _ _ _ _ _ l.before.before.before.transitive-first.ensures source.ensures c.transitive_delay.ensures l.before.loop2.invariant.1 c.lowered.ensures,
+    )
+
+pub loop-j-preserved : goal.loop-j-preserved
+loop-j-preserved c = let l = c in
+    (omega arith, bounds-more _ _ _ _ _ _ _ l.loop.invariant.1 c.loop-c.invariant.1 (omega arith) c.transitive_count-count.ensures)
+
+pub returns : goal.returns
+returns c = let e : c.loop-j.j ≡ c.members-n.result = omega arith in cc

@@ -1,0 +1,19 @@
+use mathlib.Core.Path.{sym, ◌∙◌}
+use Rattle.members.proofs.Delays.{exact, near}
+use borrow.Author.Rules.{rules}
+use Rattle.members.proofs.exactly.Goals as goal
+
+-- `members::exactly` meets its contract.
+
+-- Assumes nothing.
+
+delay-requires : tie.Need-delay-requires
+delay-requires c κs = search rules
+
+pub returns-in-To : goal.returns-in-To
+returns-in-To c = let a = c.args in
+    exact a.t a.d _ (sym c.delay.ensures ∙ c.in-To.is)
+
+pub returns-in-TooFar : goal.returns-in-TooFar
+returns-in-TooFar c = let a = c.args in
+    absurd (near a.t a.d c.requires.0 c.requires.1 (sym c.delay.ensures ∙ c.in-TooFar.is))

@@ -1,0 +1,11 @@
+use Rattle.passes.specs.Pages.{stopped_at}
+use Rattle.states.specs.Steps.{every}
+use mathlib.Core.Path.{◌≡◌}
+use Prim.Native.Nat.{◌-◌, ◌≤◌}
+use Rattle.passes.proofs.all_stopped.Given as goal
+
+abbrev pub invariant-loop-k : goal.invariant-loop-k
+invariant-loop-k l = (l.k ≤ l.n) × (l.all ≡ every (stopped_at l.s) l.k)
+
+abbrev pub decreases-loop-k : goal.decreases-loop-k
+decreases-loop-k l = l.n - l.k

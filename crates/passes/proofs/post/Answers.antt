@@ -1,0 +1,4 @@
+use Rattle.passes.proofs.post.Goals as goal
+
+pub returns : goal.returns
+returns c = rw c.send.ensures

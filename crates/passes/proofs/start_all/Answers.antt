@@ -1,0 +1,22 @@
+use Rattle.passes.proofs.Counts.{sent_of, over-all, start-single}
+use Rattle.passes.specs.Pages.{Page, on, start_at}
+use Rattle.rows.specs.Loops.{over_all}
+use mathlib.Core.Path.{◌≡◌, refl, ap, ◌∙◌}
+use native.Mathlib.Numerals.{add-one}
+use native.Mathlib.Omega.{arith}
+use Prim.Native.Nat.{◌-◌}
+use Rattle.passes.proofs.start_all.Goals as goal
+
+pub loop-k-init : goal.loop-k-init
+unfolding over_all
+loop-k-init c = (omega arith, refl, refl)
+
+pub start_one-q-requires : goal.start_one-q-requires
+start_one-q-requires c = let l = c.loop-k in let sent = over-all start_at start-single l.k (on c.args.p c.args.out.now) in let e = ap sent_of l.invariant.2 in omega arith
+
+pub loop-k-preserved : goal.loop-k-preserved
+unfolding over_all
+loop-k-preserved c = (omega arith, omega arith, rw add-one (c.start_one-q.ensures ∙ ap (λ (g : Page). start_at g c.loop-k.k) c.loop-k.invariant.2))
+
+pub returns : goal.returns
+returns c = let l = c.loop-k in let e : l.k ≡ c.args.n = omega arith in l.invariant.2 ∙ rw e

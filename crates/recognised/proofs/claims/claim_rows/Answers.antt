@@ -1,0 +1,91 @@
+use Rattle.recognised.proofs.Matrix.{filled_none, filled_more}
+use Rattle.recognised.proofs.Cells.{tells_true, tells_false, never}
+use Rattle.recognised.proofs.Words.{plains-set}
+use Rattle.recognised.specs.Words.{brief, Plains}
+use Rattle.recognised.specs.Cells.{Filled}
+use Rattle.rows.specs.Loops.{delay_of}
+use Rattle.rows.specs.Rows.{field}
+use lib.ListN.{length, length-set}
+use mathlib.Core.Path.{◌≡◌, sym}
+use Prim.Native.Nat.{ℕ, ◌≤◌, ◌<◌, ◌+◌, ◌-◌}
+use borrow.Author.Count.{below_more}
+use native.Mathlib.Omega.{arith}
+use Rattle.recognised.proofs.claims.claim_rows.Goals as goal
+
+-- `recognised::claim_rows` meets its contract.
+
+-- Assumes nothing.
+
+abbrev invariant-loop : tie.invariant-loop
+invariant-loop plan place k c t n kind₀ value₀ q₀ kind value q =
+    (length kind ≡ 1024) × (length value ≡ 1024) × (q ≤ c) × ((x : ℕ) → x < q → field 4 place 16 0 (k + x) plan < n)
+    × Filled kind₀ value₀ kind value t (delay_of (λ (x : ℕ). field 4 place 16 0 x plan) (λ (x : ℕ). field 8 place 16 8 x plan) k q)
+    × (((x : ℕ) → x < q → field 8 place 16 8 (k + x) plan < brief) → Plains kind₀ value₀ → Plains kind value)
+
+pub loop-q-init : goal.loop-q-init
+loop-q-init c = let s = c in (omega arith, omega arith, omega arith, λ x l. absurd (omega arith), filled_none _ _ _ _ s.requires.2 _ _ s.requires.5, λ h P. P)
+
+pub overflow_add-k : goal.overflow_add-k
+overflow_add-k c = omega arith
+
+pub in_source-s-requires : goal.in_source-s-requires
+in_source-s-requires c = omega arith
+
+pub shape_of-kind-then-n-s : goal.shape_of-kind-then-n-s
+shape_of-kind-then-n-s c = omega arith
+
+pub shape_of-value-then-n-s : goal.shape_of-value-then-n-s
+shape_of-value-then-n-s c = omega arith
+
+pub returns-then-n-s : goal.returns-then-n-s
+returns-then-n-s c = let l = c.loop-q in
+    (tells_false (λ all. absurd (omega (arith, all l.q (omega arith)))), (λ e. never (sym e), λ e. never (sym e)))
+
+pub overflow_add-k-in-loop-q : goal.overflow_add-k-in-loop-q
+overflow_add-k-in-loop-q c = omega arith
+
+pub wide_in_source-d-requires : goal.wide_in_source-d-requires
+wide_in_source-d-requires c = omega arith
+
+pub overflow_mul-p : goal.overflow_mul-p
+overflow_mul-p c = omega arith
+
+pub overflow_add-p : goal.overflow_add-p
+overflow_add-p c = omega arith
+
+pub bounds-kind-p : goal.bounds-kind-p
+bounds-kind-p c = omega arith
+
+pub offset_bounds-value-p : goal.offset_bounds-value-p
+offset_bounds-value-p c = omega arith
+
+pub bounds-value-p : goal.bounds-value-p
+bounds-value-p c = omega arith
+
+pub overflow_add-q : goal.overflow_add-q
+overflow_add-q c = omega arith
+
+pub loop-q-smaller : goal.loop-q-smaller
+loop-q-smaller c = omega arith
+
+pub loop-q-preserved : goal.loop-q-preserved
+loop-q-preserved c = let s = c in
+    let l = c.loop-q in (
+      simp length-set (omega arith),
+      simp length-set (omega arith),
+      omega arith,
+      below_more _ _ l.invariant.3 (omega arith),
+      filled_more _ _ s.args.k s.args.t s.requires.2 _ _ l.kind l.value l.q _ _ (omega arith) (omega arith) (omega arith) (omega arith) (sym c.in_source-s.ensures) (sym c.wide_in_source-d.ensures) l.invariant.4,
+      λ h P. plains-set _ _ _ _ (omega arith) (omega arith) (omega arith) (omega (arith, h l.q (omega arith))) (l.invariant.5 (λ x y. h x (omega arith)) P),
+    )
+
+pub shape_of-kind : goal.shape_of-kind
+shape_of-kind c = omega arith
+
+pub shape_of-value : goal.shape_of-value
+shape_of-value c = omega arith
+
+pub returns : goal.returns
+returns c = let l = c.loop-q in
+    let e : c.args.c ≡ l.q = omega arith in
+    (tells_true (λ x h. l.invariant.3 x (omega arith)), (λ y. rw e l.invariant.4, λ y h P. l.invariant.5 (λ x g. h x (omega arith)) P))

@@ -1,0 +1,21 @@
+use Rattle.recognised.proofs.Walks.{not-near}
+use Rattle.recognised.specs.Recognised.{limit}
+use Rattle.delays.proofs.Cells.{cell_cut}
+use Rattle.delays.specs.Cells.{cell}
+use borrow.Author.Tests.{leb-true, leb-false}
+use Prim.Native.Nat.{◌≤◌}
+use Rattle.recognised.proofs.Cells.{tells_true}
+use native.Mathlib.Omega.{arith}
+use Rattle.recognised.proofs.claims.short_at.Goals as goal
+
+-- `recognised::short_at` meets its contract.
+
+-- Assumes nothing.
+
+returns : tie.Need-returns
+returns c =
+    let e = cell_cut c.before.args.kind c.before.args.value (omega arith) in
+    record { right = λ t l. omega (arith, leb-true); wrong = λ f P. let q : cell c.before.args.kind c.before.args.value ≤ limit = P (omega arith) in omega (arith, leb-false) }
+
+pub returns : goal.returns
+returns c = tells_true (λ l. absurd (not-near _ _ (omega arith) l))

@@ -1,0 +1,5 @@
+use Prim.Native.Nat.{◌-◌}
+use Rattle.recognised.proofs.claims.short_row.Given as goal
+
+abbrev pub decreases-loop-t : goal.decreases-loop-t
+decreases-loop-t l = l.n - l.t

@@ -1,0 +1,64 @@
+use Rattle.recognised.proofs.Walks.{targets-none, targets-held, targets-skip, targets-row, whole_same}
+use Rattle.recognised.proofs.Walks.{targets-none, targets-held, targets-skip, targets-row}
+use Rattle.recognised.proofs.Cells.{tells_false, not_taken, not_left}
+use Rattle.recognised.specs.Walks.{onward, Whole}
+use Rattle.image.specs.Image.{target_row}
+use Rattle.delays.specs.Cells.{grid}
+use borrow.Author.Tests.{eqb-true, eqb-false}
+use mathlib.Core.Logic.{⊎_elim}
+use mathlib.Core.Path.{◌≡◌, sym, ◌∙◌}
+use Prim.Native.Nat.{◌≤◌, ◌+◌, ◌*◌, ◌-◌}
+use native.Mathlib.Omega.{arith}
+use Rattle.recognised.proofs.lists.target_rows.Goals as goal
+
+-- `recognised::target_rows` meets its contract.
+
+-- Assumes nothing.
+
+abbrev invariant-loop : tie.invariant-loop
+invariant-loop plan place k c kind value s n q₀ t₀ q t =
+    (q ≤ c) × (t ≤ n) × Whole plan (place + 4 * k) target_row (onward (grid kind value) s) t q
+
+pub loop-t-init : goal.loop-t-init
+loop-t-init c = (omega arith, omega arith, targets-none c.args.plan.now c.args.place c.args.k (onward (grid c.args.kind.now c.args.value.now) c.args.s) (omega arith))
+
+pub leads-requires : goal.leads-requires
+leads-requires c = omega arith
+
+pub returns-then-q-c : goal.returns-then-q-c
+returns-then-q-c c = let l = c.loop-t in
+    tells_false (λ X. let r = targets-row c.args.plan.now c.args.place c.args.k (onward (grid c.args.kind.now c.args.value.now) c.args.s) l.t c.args.n l.q c.args.c (omega arith) (sym c.leads.ensures ∙ c.if-leads.true) l.invariant.2 X in omega arith)
+
+pub overflow_add-k : goal.overflow_add-k
+overflow_add-k c = omega arith
+
+pub target_row-requires : goal.target_row-requires
+target_row-requires c = omega arith
+
+pub returns-then-not-target_row : goal.returns-then-not-target_row
+returns-then-not-target_row c = let l = c.loop-t in
+    tells_false (λ X. let r = targets-row c.args.plan.now c.args.place c.args.k (onward (grid c.args.kind.now c.args.value.now) c.args.s) l.t c.args.n l.q c.args.c (omega arith) (sym c.leads.ensures ∙ c.if-leads.true) l.invariant.2 X in c.target_row.ensures.wrong (not_taken _ c.if-not-target_row.true) r.1)
+
+pub overflow_add-q : goal.overflow_add-q
+overflow_add-q c = omega arith
+
+pub overflow_add-t : goal.overflow_add-t
+overflow_add-t c = omega arith
+
+pub loop-t-smaller : goal.loop-t-smaller
+loop-t-smaller c = omega arith
+
+pub loop-t-preserved : goal.loop-t-preserved
+loop-t-preserved c = let l = c.loop-t in
+    ⊎_elim
+    (λ w. let e : c.if-leads.q ≡ l.q + 1 = omega arith in (omega arith, omega arith, rw e (targets-held c.args.plan.now c.args.place c.args.k (onward (grid c.args.kind.now c.args.value.now) c.args.s) l.t l.q (sym c.leads.ensures ∙ w.0.taken) (w.2.ensures.right (not_left _ w.3.left)) l.invariant.2)))
+    (λ w. let e : c.if-leads.q ≡ l.q = omega arith in (omega arith, omega arith, rw e (targets-skip c.args.plan.now c.args.place c.args.k (onward (grid c.args.kind.now c.args.value.now) c.args.s) l.t l.q (sym c.leads.ensures ∙ w.0.left) l.invariant.2)))
+    c.if-leads.branch
+
+pub returns : goal.returns
+returns c = let l = c.loop-t in
+    let e : c.args.n ≡ l.t = omega arith in
+    record {
+      right = λ z. let f : c.args.c ≡ l.q = omega (arith, eqb-true) in rw (e, f) l.invariant.2;
+      wrong = λ z X. let f = whole_same X l.invariant.2 e in omega (arith, eqb-false);
+    }

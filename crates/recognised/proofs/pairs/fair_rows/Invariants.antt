@@ -1,0 +1,5 @@
+use Prim.Native.Nat.{◌-◌}
+use Rattle.recognised.proofs.pairs.fair_rows.Given as goal
+
+abbrev pub decreases-loop-s : goal.decreases-loop-s
+decreases-loop-s l = l.n - l.s

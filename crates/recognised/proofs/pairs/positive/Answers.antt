@@ -1,0 +1,17 @@
+use Rattle.recognised.proofs.Cells.{tells_true, cell-some}
+use Rattle.delays.proofs.Cells.{cell_cut}
+use borrow.Author.Tests.{ltb-true, ltb-false}
+use native.Mathlib.Omega.{arith}
+use Rattle.recognised.proofs.pairs.positive.Goals as goal
+
+-- `recognised::positive` meets its contract.
+
+-- Assumes nothing.
+
+returns : tie.Need-returns
+returns c =
+    let e = cell_cut c.before.args.kind c.before.args.value (omega arith) in
+    record { right = λ t z. omega (arith, ltb-true); wrong = λ f P. P (omega (arith, ltb-false)) }
+
+pub returns : goal.returns
+returns c = tells_true (cell-some _ _ (omega arith))

@@ -1,0 +1,33 @@
+use Prim.Native.Nat.{ℕ, ◌<◌, ◌≤◌, ◌-◌}
+use mathlib.Core.Path.{sym}
+use Rattle.rows.specs.Rows.{edge_delay}
+use Rattle.recognised.specs.Words.{brief}
+use Rattle.recognised.proofs.Cells.{never}
+use borrow.Author.Count.{below_more}
+use native.Mathlib.Omega.{arith}
+use Rattle.recognised.proofs.plain.brief_edges.Goals as goal
+
+-- `recognised::brief_edges` meets its contract.
+
+-- Assumes nothing.
+
+abbrev invariant-loop : tie.invariant-loop
+invariant-loop plan e k₀ k = (k ≤ e) × ((x : ℕ) → x < k → edge_delay plan x < brief)
+
+pub loop-k-init : goal.loop-k-init
+loop-k-init c = (omega arith, λ x l. absurd (omega arith))
+
+pub returns-then-edge_delay-ge-BRIEF : goal.returns-then-edge_delay-ge-BRIEF
+returns-then-edge_delay-ge-BRIEF c = λ e. never (sym e)
+
+pub overflow_add-k : goal.overflow_add-k
+overflow_add-k c = omega arith
+
+pub loop-k-smaller : goal.loop-k-smaller
+loop-k-smaller c = omega arith
+
+pub loop-k-preserved : goal.loop-k-preserved
+loop-k-preserved c = let l = c.loop-k in (omega arith, below_more _ _ l.invariant.1 (omega arith))
+
+pub returns : goal.returns
+returns c = λ y x h. c.loop-k.invariant.1 x (omega arith)

@@ -1,0 +1,5 @@
+use Prim.Native.Nat.{◌-◌}
+use Rattle.recognised.proofs.plain.passes.Given as goal
+
+abbrev pub decreases-loop-k : goal.decreases-loop-k
+decreases-loop-k l = l.e - l.k

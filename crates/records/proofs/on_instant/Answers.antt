@@ -1,0 +1,4 @@
+use Rattle.records.proofs.on_instant.Goals as goal
+
+pub returns-in-Finite : goal.returns-in-Finite
+returns-in-Finite c = simp c.in-Finite.is
