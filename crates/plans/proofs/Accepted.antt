@@ -6,7 +6,7 @@ use mathlib.Core.Path.{◌≡◌, refl, sym, ap, ◌∙◌}
 use mathlib.Core.List.{List}
 use native.Mathlib.Omega.{arith}
 use native.Mathlib.Decide.{ℕ_discrete}
-use borrow.Author.Tests.{eq-eqb, ne_eqb, ltb-false, eqb-true, not_false}
+use borrow.Author.Tests.{eq-eqb, ne_eqb, ltb-false, eqb-true, not-false}
 use lib.Dec.{ltb, eqb}
 use lib.ListN.{length}
 use Rattle.basis.specs.Choice.{pick, not}
@@ -50,7 +50,7 @@ accepted b z =
     record {
       few = ltb-false member_limit _ three.0;
       routed = ltb-false edge_limit _ four.0;
-      whole = framed-length b (not_false _ five.0);
+      whole = framed-length b (not-false _ five.0);
       members = six.0;
       repeats = seven.0;
       edges = seven.1;

@@ -8,7 +8,7 @@ use mathlib.Core.List.{List}
 use native.Mathlib.Nat.{eq-or-lt_of_le, le_of_suc-le-suc}
 use native.Mathlib.Decide.{ℕ_discrete}
 use native.Mathlib.Omega.{arith}
-use borrow.Author.Tests.{ltb-false, ne_eqb, not_false}
+use borrow.Author.Tests.{ltb-false, ne_eqb, not-false}
 use lib.Dec.{ltb, eqb}
 use Rattle.basis.specs.Choice.{pick, not, either}
 use Rattle.plans.specs.declared.Refusal.{Refusal}
@@ -76,4 +76,4 @@ module _ (b : List ℕ) (a : Accepted b) where
       let one = past (among (edge_id at b) k (edge_id at b k)) 5 (edge_id at b k) 0 _ (fault k h) in
       let two = past (not (among (member_id b) (member_count b) x.source)) 6 (edge_id at b k) x.source _ one.1 in
       let three = past (not (among (member_id b) (member_count b) x.target)) 6 (edge_id at b k) x.target _ two.1 in
-      (not_false _ two.0, not_false _ three.0)
+      (not-false _ two.0, not-false _ three.0)

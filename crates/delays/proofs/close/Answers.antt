@@ -17,13 +17,12 @@ pub loop-k-smaller : goal.loop-k-smaller
 loop-k-smaller c = omega arith
 
 pub loop-k-preserved : goal.loop-k-preserved
-loop-k-preserved c = let s = c in
-    let l = c.loop-k in
+loop-k-preserved c = let l = c.loop-k in
     let r = c.round in (
       omega (arith, r.auto.0),
       omega (arith, r.auto.1.0),
       omega arith,
-      holds_more s.args.kind.now s.args.value.now l.kind l.value _ _ s.args.n l.k (omega arith) l.invariant.3 r.ensures,
+      holds_more c.args.kind.now c.args.value.now l.kind l.value _ _ c.args.n l.k (omega arith) l.invariant.3 r.ensures,
     )
 
 pub shape_of-kind : goal.shape_of-kind

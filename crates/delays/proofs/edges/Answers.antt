@@ -17,13 +17,12 @@ pub loop-i-smaller : goal.loop-i-smaller
 loop-i-smaller c = omega arith
 
 pub loop-i-preserved : goal.loop-i-preserved
-loop-i-preserved c = let s = c in
-    let l = c.loop-i in
+loop-i-preserved c = let l = c.loop-i in
     let r = c.edge in (
       omega (arith, r.auto.1.1.1.1.0),
       omega (arith, r.auto.1.1.1.1.1.0),
       omega arith,
-      edges_more s.args.sources.now s.args.targets.now s.args.delays.now l.kind l.value _ _ l.i (s.requires.2.to l.i (omega arith)) l.invariant.3 r.ensures,
+      edges_more c.args.sources.now c.args.targets.now c.args.delays.now l.kind l.value _ _ l.i (c.requires.2.to l.i (omega arith)) l.invariant.3 r.ensures,
     )
 
 pub shape_of-kind : goal.shape_of-kind

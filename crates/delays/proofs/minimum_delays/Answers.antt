@@ -2,5 +2,4 @@ use Rattle.delays.proofs.Plans.{minimum-held}
 use Rattle.delays.proofs.minimum_delays.Goals as goal
 
 pub returns : goal.returns
-returns c = let s = c in
-    minimum-held s.args.p s.requires.2 _ _ _ _ (λ q. (c.type_inv.value q).fits) c.direct_delays.ensures c.close.ensures
+returns c = minimum-held c.args.p c.requires.2 _ _ _ _ (λ q. (c.type_inv.value q).fits) c.direct_delays.ensures c.close.ensures

@@ -17,13 +17,12 @@ pub loop-s-smaller : goal.loop-s-smaller
 loop-s-smaller c = omega arith
 
 pub loop-s-preserved : goal.loop-s-preserved
-loop-s-preserved c = let s = c in
-    let l = c.loop-s in
+loop-s-preserved c = let l = c.loop-s in
     let r = c.row in (
       omega (arith, r.auto.0),
       omega (arith, r.auto.1.0),
       omega arith,
-      turn s.args.kind.now s.args.value.now s.args.k l.kind l.value s.args.n l.s l.invariant.3 (omega arith) (omega arith) _ _ r.ensures,
+      turn c.args.kind.now c.args.value.now c.args.k l.kind l.value c.args.n l.s l.invariant.3 (omega arith) (omega arith) _ _ r.ensures,
     )
 
 pub shape_of-kind : goal.shape_of-kind

@@ -35,13 +35,12 @@ pub loop-t-smaller : goal.loop-t-smaller
 loop-t-smaller c = omega arith
 
 pub loop-t-preserved : goal.loop-t-preserved
-loop-t-preserved c = let s = c in
-    let l = c.loop-t in
+loop-t-preserved c = let l = c.loop-t in
     let r = c.relax in (
       omega (arith, r.auto.0),
       omega (arith, r.auto.1.0),
       omega arith,
-      row_more s.args.kind.now s.args.value.now s.args.k l.kind l.value s.args.s l.t l.invariant.3 (omega arith) _ _ r.ensures,
+      row_more c.args.kind.now c.args.value.now c.args.k l.kind l.value c.args.s l.t l.invariant.3 (omega arith) _ _ r.ensures,
     )
 
 pub shape_of-kind : goal.shape_of-kind

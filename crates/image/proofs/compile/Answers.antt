@@ -7,12 +7,10 @@ use Rattle.image.proofs.Outcomes.{read_out, read_in}
 use Rattle.image.proofs.compile.Goals as goal
 
 pub returns-then-refusal-ne0 : goal.returns-then-refusal-ne0
-returns-then-refusal-ne0 c = let start = c in
-    let r : c.read-reading.result ≡ reading_of start.args.plan.now = c.read-reading.ensures in read_out start.args.plan.now start.args.out.now c.refused.result (rw r at (ne_eqb c.read-reading.result.refusal.number 0 c.if-refusal-ne0.true)) (c.refused.ensures ∙ ap (λ x. refused x.refusal) r)
+returns-then-refusal-ne0 c = let r : c.read-reading.result ≡ reading_of c.args.plan.now = c.read-reading.ensures in read_out c.args.plan.now c.args.out.now c.refused.result (rw r at (ne_eqb c.read-reading.result.refusal.number 0 c.if-refusal-ne0.true)) (c.refused.ensures ∙ ap (λ x. refused x.refusal) r)
 
 pub compile_plan-requires : goal.compile_plan-requires
 compile_plan-requires c = rw c.read-reading.ensures (reading-fits c.args.plan.now)
 
 pub returns : goal.returns
-returns c = let start = c in
-    let r : c.read-reading.result ≡ reading_of start.args.plan.now = c.read-reading.ensures in read_in start.args.plan.now start.args.out.now (rw r at (eq-eqb c.read-reading.result.refusal.number 0 c.if-refusal-ne0.false)) (rw r at c.compile_plan.ensures)
+returns c = let r : c.read-reading.result ≡ reading_of c.args.plan.now = c.read-reading.ensures in read_in c.args.plan.now c.args.out.now (rw r at (eq-eqb c.read-reading.result.refusal.number 0 c.if-refusal-ne0.false)) (rw r at c.compile_plan.ensures)

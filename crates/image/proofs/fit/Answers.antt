@@ -7,43 +7,40 @@ use Rattle.image.proofs.Plans.{Counted, few-rows, image-is, image-room, total-is
 use Rattle.image.proofs.fit.Goals as goal
 
 pub end_of-total-requires : goal.end_of-total-requires
-end_of-total-requires c = let start = c in
-    let rows : Counted start.args.p start.args.dk.now start.args.dv.now start.args.mk.now start.args.mv.now c.sources_total-d.result c.sources_total-t.result c.targets_total-w.result =
+end_of-total-requires c = let rows : Counted c.args.p c.args.dk.now c.args.dv.now c.args.mk.now c.args.mv.now c.sources_total-d.result c.sources_total-t.result c.targets_total-w.result =
     record {
-      few = start.requires.0.few;
-      direct = start.requires.5;
-      minimum = start.requires.6;
+      few = c.requires.0.few;
+      direct = c.requires.5;
+      minimum = c.requires.6;
       directs = c.sources_total-d.ensures;
       transitives = c.sources_total-t.ensures;
       downstreams = c.targets_total-w.ensures;
     } in
-    (start.requires.0.few, start.requires.0.routed, (few-rows rows).0, (few-rows rows).1, (few-rows rows).2)
+    (c.requires.0.few, c.requires.0.routed, (few-rows rows).0, (few-rows rows).1, (few-rows rows).2)
 
 pub returns-then-out-total : goal.returns-then-out-total
-returns-then-out-total c = let start = c in
-    let rows : Counted start.args.p start.args.dk.now start.args.dv.now start.args.mk.now start.args.mv.now c.sources_total-d.result c.sources_total-t.result c.targets_total-w.result =
+returns-then-out-total c = let rows : Counted c.args.p c.args.dk.now c.args.dv.now c.args.mk.now c.args.mv.now c.sources_total-d.result c.sources_total-t.result c.targets_total-w.result =
     record {
-      few = start.requires.0.few;
-      direct = start.requires.5;
-      minimum = start.requires.6;
+      few = c.requires.0.few;
+      direct = c.requires.5;
+      minimum = c.requires.6;
       directs = c.sources_total-d.ensures;
       transitives = c.sources_total-t.ensures;
       downstreams = c.targets_total-w.ensures;
     } in
-    short start.args.p start.args.out.now c.refused.result (omega (arith, c.if-out-total.true, c.before.before.before.end_of_lem.ensures, total-is rows)) (cc)
+    short c.args.p c.args.out.now c.refused.result (omega (arith, c.if-out-total.true, c.before.before.before.end_of_lem.ensures, total-is rows)) (cc)
 
 pub put_image-requires : goal.put_image-requires
-put_image-requires c = let start = c in
-    let rows : Counted start.args.p start.args.dk.now start.args.dv.now start.args.mk.now start.args.mv.now c.sources_total-d.result c.sources_total-t.result c.targets_total-w.result =
+put_image-requires c = let rows : Counted c.args.p c.args.dk.now c.args.dv.now c.args.mk.now c.args.mv.now c.sources_total-d.result c.sources_total-t.result c.targets_total-w.result =
     record {
-      few = start.requires.0.few;
-      direct = start.requires.5;
-      minimum = start.requires.6;
+      few = c.requires.0.few;
+      direct = c.requires.5;
+      minimum = c.requires.6;
       directs = c.sources_total-d.ensures;
       transitives = c.sources_total-t.ensures;
       downstreams = c.targets_total-w.ensures;
     } in (
-      start.requires.0,
+      c.requires.0,
       omega arith,
       omega arith,
       omega arith,
@@ -51,19 +48,18 @@ put_image-requires c = let start = c in
       (few-rows rows).0,
       (few-rows rows).1,
       (few-rows rows).2,
-      image-room rows start.args.out.now (omega (arith, c.if-out-total.false, c.before.before.end_of_lem.ensures)),
+      image-room rows c.args.out.now (omega (arith, c.if-out-total.false, c.before.before.end_of_lem.ensures)),
     )
 
 pub returns : goal.returns
-returns c = let start = c in
-    let rows : Counted start.args.p start.args.dk.now start.args.dv.now start.args.mk.now start.args.mv.now c.sources_total-d.result c.sources_total-t.result c.targets_total-w.result =
+returns c = let rows : Counted c.args.p c.args.dk.now c.args.dv.now c.args.mk.now c.args.mv.now c.sources_total-d.result c.sources_total-t.result c.targets_total-w.result =
     record {
-      few = start.requires.0.few;
-      direct = start.requires.5;
-      minimum = start.requires.6;
+      few = c.requires.0.few;
+      direct = c.requires.5;
+      minimum = c.requires.6;
       directs = c.sources_total-d.ensures;
       transitives = c.sources_total-t.ensures;
       downstreams = c.targets_total-w.ensures;
     } in
-    let total : c.before.before.before.before.before.before.end_of_lem.result ≡ total_of start.args.p = c.before.before.before.before.before.before.end_of_lem.ensures ∙ total-is rows in
-    long start.args.p start.args.out.now c.written.result (omega (arith, c.if-out-total.false)) (rw (image-is rows) at c.put_image.ensures) (c.written.ensures ∙ ap written total)
+    let total : c.before.before.before.before.before.before.end_of_lem.result ≡ total_of c.args.p = c.before.before.before.before.before.before.end_of_lem.ensures ∙ total-is rows in
+    long c.args.p c.args.out.now c.written.result (omega (arith, c.if-out-total.false)) (rw (image-is rows) at c.put_image.ensures) (c.written.ensures ∙ ap written total)

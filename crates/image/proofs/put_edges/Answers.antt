@@ -11,8 +11,7 @@ unfolding edges_bytes
 loop-k-init c = go-first _ _ _ _ c.requires.4
 
 pub put_edge-next-requires : goal.put_edge-next-requires
-put_edge-next-requires c = let start = c in
-    omega (arith, go-room c.loop-k.invariant (omega arith), length-edge (get_or start.args.routes.now c.loop-k.k 0) (get_or start.args.sources.now c.loop-k.k 0) (get_or start.args.targets.now c.loop-k.k 0) (get_or start.args.delays.now c.loop-k.k 0))
+put_edge-next-requires c = omega (arith, go-room c.loop-k.invariant (omega arith), length-edge (get_or c.args.routes.now c.loop-k.k 0) (get_or c.args.sources.now c.loop-k.k 0) (get_or c.args.targets.now c.loop-k.k 0) (get_or c.args.delays.now c.loop-k.k 0))
 
 pub overflow_add-k : goal.overflow_add-k
 overflow_add-k c = omega arith

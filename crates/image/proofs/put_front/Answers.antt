@@ -11,18 +11,15 @@ use Rattle.image.proofs.put_front.Goals as goal
 
 pub put_header-members-requires : goal.put_header-members-requires
 unfolding front_bytes
-put_header-members-requires c = let start = c in
-    let room : 48 ≤ length start.args.out.now = omega (arith, room-front 0 (header_of start.args.p.members start.args.p.edges start.args.d start.args.t start.args.w) ((members_bytes start.args.p.ids start.args.p.capacities start.args.dk.now start.args.mk.now start.args.p.members) ++ (edges_bytes start.args.p.routes start.args.p.sources start.args.p.targets start.args.p.delays start.args.p.edges)) start.args.out.now start.requires.6, length-header start.args.p.members start.args.p.edges start.args.d start.args.t start.args.w) in (room, start.requires.0.few, start.requires.0.routed, omega arith, omega arith, omega arith)
+put_header-members-requires c = let room : 48 ≤ length c.args.out.now = omega (arith, room-front 0 (header_of c.args.p.members c.args.p.edges c.args.d c.args.t c.args.w) ((members_bytes c.args.p.ids c.args.p.capacities c.args.dk.now c.args.mk.now c.args.p.members) ++ (edges_bytes c.args.p.routes c.args.p.sources c.args.p.targets c.args.p.delays c.args.p.edges)) c.args.out.now c.requires.6, length-header c.args.p.members c.args.p.edges c.args.d c.args.t c.args.w) in (room, c.requires.0.few, c.requires.0.routed, omega arith, omega arith, omega arith)
 
 pub put_members-edges-requires : goal.put_members-edges-requires
 unfolding front_bytes
-put_members-edges-requires c = let start = c in
-    let fits : Fits start.args.p = start.requires.0 in (fits.few, omega (arith, fits.few, fits.ids), omega (arith, fits.few, fits.capacities), omega arith, omega arith, fits.small, room-middle (members_bytes start.args.p.ids start.args.p.capacities start.args.dk.now start.args.mk.now start.args.p.members) (edges_bytes start.args.p.routes start.args.p.sources start.args.p.targets start.args.p.delays start.args.p.edges) start.requires.6 c.put_header-members.ensures)
+put_members-edges-requires c = let fits : Fits c.args.p = c.requires.0 in (fits.few, omega (arith, fits.few, fits.ids), omega (arith, fits.few, fits.capacities), omega arith, omega arith, fits.small, room-middle (members_bytes c.args.p.ids c.args.p.capacities c.args.dk.now c.args.mk.now c.args.p.members) (edges_bytes c.args.p.routes c.args.p.sources c.args.p.targets c.args.p.delays c.args.p.edges) c.requires.6 c.put_header-members.ensures)
 
 pub put_edges-requires : goal.put_edges-requires
 unfolding front_bytes
-put_edges-requires c = let start = c in
-    let fits : Fits start.args.p = start.requires.0 in (omega (arith, fits.routed, fits.routes), omega (arith, fits.routed, fits.sources), omega (arith, fits.routed, fits.targets), omega (arith, fits.routed, fits.delays), room-last (edges_bytes start.args.p.routes start.args.p.sources start.args.p.targets start.args.p.delays start.args.p.edges) start.requires.6 c.put_header-members.ensures c.put_members-edges.ensures)
+put_edges-requires c = let fits : Fits c.args.p = c.requires.0 in (omega (arith, fits.routed, fits.routes), omega (arith, fits.routed, fits.sources), omega (arith, fits.routed, fits.targets), omega (arith, fits.routed, fits.delays), room-last (edges_bytes c.args.p.routes c.args.p.sources c.args.p.targets c.args.p.delays c.args.p.edges) c.requires.6 c.put_header-members.ensures c.put_members-edges.ensures)
 
 pub returns : goal.returns
 unfolding front_bytes

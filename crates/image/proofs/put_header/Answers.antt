@@ -5,8 +5,7 @@ use Rattle.image.proofs.put_header.Goals as goal
 
 pub put_words-requires : goal.put_words-requires
 unfolding header_of
-put_words-requires c = let start = c in
-    (omega (arith, length-header start.args.n start.args.e start.args.d start.args.t start.args.w), (omega arith, (omega arith, (omega arith, (omega arith, (omega arith, (omega arith, (omega arith, (omega arith, (omega arith, (omega arith, (omega arith, (omega arith, (tt))))))))))))))
+put_words-requires c = (omega (arith, length-header c.args.n c.args.e c.args.d c.args.t c.args.w), (omega arith, (omega arith, (omega arith, (omega arith, (omega arith, (omega arith, (omega arith, (omega arith, (omega arith, (omega arith, (omega arith, (omega arith, (tt))))))))))))))
 
 pub returns : goal.returns
 unfolding header_of

@@ -7,8 +7,7 @@ use Rattle.image.proofs.Rows.{length-words}
 use Rattle.image.proofs.put_member.Goals as goal
 
 pub put_words-requires : goal.put_words-requires
-put_words-requires c = let start = c in
-    (omega (arith, put_next 32 (omega (arith, length-bytes 8 start.args.id)) c.put_u64-next.ensures, length-words (start.args.capacity ∷ start.args.d ∷ start.args.dc ∷ start.args.t ∷ start.args.tc ∷ start.args.w ∷ start.args.wc ∷ 0 ∷ [])), start.requires.1)
+put_words-requires c = (omega (arith, put_next 32 (omega (arith, length-bytes 8 c.args.id)) c.put_u64-next.ensures, length-words (c.args.capacity ∷ c.args.d ∷ c.args.dc ∷ c.args.t ∷ c.args.tc ∷ c.args.w ∷ c.args.wc ∷ 0 ∷ [])), c.requires.1)
 
 pub returns : goal.returns
 unfolding member_bytes

@@ -12,29 +12,21 @@ unfolding members_bytes summed
 loop-i-init c = (go-first _ _ _ _ c.requires.6, refl, refl, refl)
 
 pub put_member-next-requires : goal.put_member-next-requires
-put_member-next-requires c = let here = c in
-    let start = c in
-    let d = sources-sum start.args.dk.now start.args.n here.loop.i (omega arith) (omega arith) in
-    let t = sources-sum start.args.mk.now start.args.n here.loop.i (omega arith) (omega arith) in
-    let w = targets-sum start.args.mk.now start.args.n here.loop.i (omega arith) (omega arith) in (
-      omega (arith, go-room here.loop.invariant.0 (omega arith), length-member_in start.args.ids.now start.args.capacities.now start.args.dk.now start.args.mk.now start.args.n here.loop.i),
-      (omega (arith, start.requires.5 here.loop.i (omega arith)), (omega arith, (omega arith, (omega arith, (omega arith, (omega arith, (omega arith, (omega arith, tt)))))))),
+put_member-next-requires c = let d = sources-sum c.args.dk.now c.args.n c.loop-i.i (omega arith) (omega arith) in
+    let t = sources-sum c.args.mk.now c.args.n c.loop-i.i (omega arith) (omega arith) in
+    let w = targets-sum c.args.mk.now c.args.n c.loop-i.i (omega arith) (omega arith) in (
+      omega (arith, go-room c.loop-i.invariant.0 (omega arith), length-member_in c.args.ids.now c.args.capacities.now c.args.dk.now c.args.mk.now c.args.n c.loop-i.i),
+      (omega (arith, c.requires.5 c.loop-i.i (omega arith)), (omega arith, (omega arith, (omega arith, (omega arith, (omega arith, (omega arith, (omega arith, tt)))))))),
     )
 
 pub overflow_add-d : goal.overflow_add-d
-overflow_add-d c = let here = c in
-    let start = c in
-    omega (arith, sources-sum start.args.dk.now start.args.n here.loop.i (omega arith) (omega arith))
+overflow_add-d c = omega (arith, sources-sum c.args.dk.now c.args.n c.loop-i.i (omega arith) (omega arith))
 
 pub overflow_add-t : goal.overflow_add-t
-overflow_add-t c = let here = c in
-    let start = c in
-    omega (arith, sources-sum start.args.mk.now start.args.n here.loop.i (omega arith) (omega arith))
+overflow_add-t c = omega (arith, sources-sum c.args.mk.now c.args.n c.loop-i.i (omega arith) (omega arith))
 
 pub overflow_add-w : goal.overflow_add-w
-overflow_add-w c = let here = c in
-    let start = c in
-    omega (arith, targets-sum start.args.mk.now start.args.n here.loop.i (omega arith) (omega arith))
+overflow_add-w c = omega (arith, targets-sum c.args.mk.now c.args.n c.loop-i.i (omega arith) (omega arith))
 
 pub overflow_add-i : goal.overflow_add-i
 overflow_add-i c = omega arith
@@ -44,14 +36,13 @@ loop-i-smaller c = omega arith
 
 pub loop-i-preserved : goal.loop-i-preserved
 unfolding member_in
-loop-i-preserved c = let here = c in
-    let start = c in (
-      go_on here.loop.invariant.0 (omega arith)
-          (rw (← here.loop.invariant.1, ← c.source_count-dc.ensures, ← here.loop.invariant.2, ← c.source_count-tc.ensures, ← here.loop.invariant.3, ← c.target_count-wc.ensures)
+loop-i-preserved c = (
+      go_on c.loop-i.invariant.0 (omega arith)
+          (rw (← c.loop-i.invariant.1, ← c.source_count-dc.ensures, ← c.loop-i.invariant.2, ← c.source_count-tc.ensures, ← c.loop-i.invariant.3, ← c.target_count-wc.ensures)
           c.put_member-next.ensures),
-      cc (summed-more (source_count start.args.dk.now start.args.n) here.loop.i),
-      cc (summed-more (source_count start.args.mk.now start.args.n) here.loop.i),
-      cc (summed-more (target_count start.args.mk.now start.args.n) here.loop.i),
+      cc (summed-more (source_count c.args.dk.now c.args.n) c.loop-i.i),
+      cc (summed-more (source_count c.args.mk.now c.args.n) c.loop-i.i),
+      cc (summed-more (target_count c.args.mk.now c.args.n) c.loop-i.i),
     )
 
 pub shape_of-out : goal.shape_of-out

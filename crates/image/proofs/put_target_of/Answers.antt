@@ -7,13 +7,10 @@ use Rattle.image.proofs.Rows.{target-held, target_none}
 use Rattle.image.proofs.put_target_of.Goals as goal
 
 pub put_u32-requires : goal.put_u32-requires
-put_u32-requires c = let start = c in
-    (omega (arith, ap length (target-held start.args.kind.now start.args.s start.args.t (sym c.onward.ensures ∙ c.if-onward.true)), length-bytes 4 start.args.t), omega arith)
+put_u32-requires c = (omega (arith, ap length (target-held c.args.kind.now c.args.s c.args.t (sym c.onward.ensures ∙ c.if-onward.true)), length-bytes 4 c.args.t), omega arith)
 
 pub returns-then-onward : goal.returns-then-onward
-returns-then-onward c = let start = c in
-    rw (target-held start.args.kind.now start.args.s start.args.t (sym c.onward.ensures ∙ c.if-onward.true)) c.put_u32.ensures
+returns-then-onward c = rw (target-held c.args.kind.now c.args.s c.args.t (sym c.onward.ensures ∙ c.if-onward.true)) c.put_u32.ensures
 
 pub returns-else-onward : goal.returns-else-onward
-returns-else-onward c = let start = c in
-    rw (target_none start.args.kind.now start.args.s start.args.t (sym c.onward.ensures ∙ c.if-onward.false)) (put-none _ _)
+returns-else-onward c = rw (target_none c.args.kind.now c.args.s c.args.t (sym c.onward.ensures ∙ c.if-onward.false)) (put-none _ _)

@@ -15,8 +15,7 @@ pub loop-k-init : goal.loop-k-init
 loop-k-init c = go-first _ _ _ _ (rw (laid-all (bytes 4) 0 c.args.ws.now) c.requires.0)
 
 pub put_u32-next-requires : goal.put_u32-next-requires
-put_u32-next-requires c = let start = c in
-    (omega (arith, go-room c.loop-k.invariant (omega arith), length-bytes 4 (get_or start.args.ws.now c.loop-k.k 0)), small_at start.args.ws.now c.loop-k.k start.requires.1 (omega arith))
+put_u32-next-requires c = (omega (arith, go-room c.loop-k.invariant (omega arith), length-bytes 4 (get_or c.args.ws.now c.loop-k.k 0)), small_at c.args.ws.now c.loop-k.k c.requires.1 (omega arith))
 
 pub loop-k-smaller : goal.loop-k-smaller
 loop-k-smaller c = omega arith

@@ -10,8 +10,7 @@ unfolding summed
 loop-t-init c = (omega arith, refl)
 
 pub overflow_add-sum : goal.overflow_add-sum
-overflow_add-sum c = let start = c in
-    omega (arith, summed-small (source_count start.args.kind.now start.args.n) start.args.n c.loop-t.t (λ i. sources-most start.args.kind.now start.args.n i) (omega arith) (omega arith), sources-most start.args.kind.now start.args.n c.loop-t.t)
+overflow_add-sum c = omega (arith, summed-small (source_count c.args.kind.now c.args.n) c.args.n c.loop-t.t (λ i. sources-most c.args.kind.now c.args.n i) (omega arith) (omega arith), sources-most c.args.kind.now c.args.n c.loop-t.t)
 
 pub overflow_add-t : goal.overflow_add-t
 overflow_add-t c = omega arith

@@ -10,8 +10,7 @@ unfolding summed
 loop-s-init c = (omega arith, refl)
 
 pub overflow_add-sum : goal.overflow_add-sum
-overflow_add-sum c = let start = c in
-    omega (arith, summed-small (target_count start.args.kind.now start.args.n) start.args.n c.loop-s.s (λ i. targets-most start.args.kind.now start.args.n i) (omega arith) (omega arith), targets-most start.args.kind.now start.args.n c.loop-s.s)
+overflow_add-sum c = omega (arith, summed-small (target_count c.args.kind.now c.args.n) c.args.n c.loop-s.s (λ i. targets-most c.args.kind.now c.args.n i) (omega arith) (omega arith), targets-most c.args.kind.now c.args.n c.loop-s.s)
 
 pub overflow_add-s : goal.overflow_add-s
 overflow_add-s c = omega arith

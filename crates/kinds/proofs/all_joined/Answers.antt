@@ -1,4 +1,4 @@
-use Prim.Native.Nat.{◌≤◌, ◌-◌}
+use Prim.Native.Nat.{◌-◌}
 use mathlib.Core.Path.{◌≡◌, refl}
 use native.Mathlib.Omega.{arith}
 use native.Mathlib.Numerals.{add-one}
@@ -7,11 +7,6 @@ use Rattle.kinds.specs.Phases.{joined_at}
 use Rattle.kinds.proofs.all_joined.Goals as goal
 
 -- `kinds::all_joined` meets its contract.
-
--- Assumes nothing.
-
-abbrev invariant-loop : tie.invariant-loop
-invariant-loop n s all₀ i₀ all i = (i ≤ n) × (all ≡ every (joined_at s) i)
 
 pub loop-i-init : goal.loop-i-init
 unfolding every

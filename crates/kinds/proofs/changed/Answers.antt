@@ -1,12 +1,6 @@
-use borrow.Author.Rules.{rules}
 use Rattle.kinds.proofs.changed.Goals as goal
 
 -- `kinds::changed` meets its contract.
-
--- Assumes nothing.
-
-enum_told : tie.Need-enum-told
-enum_told c = search rules
 
 pub returns-in-Hello : goal.returns-in-Hello
 returns-in-Hello c = rw c.in-Hello.is c.joined.ensures

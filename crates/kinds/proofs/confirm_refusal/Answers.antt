@@ -1,14 +1,8 @@
 use mathlib.Core.Path.{refl, sym, ap, ◌∙◌}
 use Rattle.basis.specs.Choice.{not, chosen, passed}
-use borrow.Author.Rules.{rules}
 use Rattle.kinds.proofs.confirm_refusal.Goals as goal
 
 -- `kinds::confirm_refusal` meets its contract.
-
--- Assumes nothing.
-
-is-quiet-at-requires : tie.Need-is-quiet-at-requires
-is-quiet-at-requires c κs = search rules
 
 pub returns-then-is_quiet_at : goal.returns-then-is_quiet_at
 returns-then-is_quiet_at c = passed _ _ _ _ (ap not (sym c.is_quiet_at.ensures ∙ c.if-is_quiet_at.true)) refl

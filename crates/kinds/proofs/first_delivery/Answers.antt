@@ -1,12 +1,6 @@
-use borrow.Author.Rules.{rules}
 use Rattle.kinds.proofs.first_delivery.Goals as goal
 
 -- `kinds::first_delivery` meets its contract.
-
--- Assumes nothing.
-
-enum_told : tie.Need-enum-told
-enum_told c = search rules
 
 pub carried-requires : goal.carried-requires
 carried-requires c = (c.requires.0, rw c.in-Payload.is at c.requires.1)

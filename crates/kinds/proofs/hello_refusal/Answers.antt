@@ -6,9 +6,8 @@ use Rattle.kinds.proofs.hello_refusal.Goals as goal
 -- `kinds::hello_refusal` meets its contract.
 
 -- Assumes nothing.
-
-returns : tie.Need-returns
-returns c = passed _ _ _ _ (ap not (eq-eqb _ _ c.if1.true)) refl
+pub returns-then-d-identity : goal.returns-then-d-identity
+returns-then-d-identity c = passed _ _ _ _ (ap not (eq-eqb _ _ c.if-d-identity.true)) refl
 
 pub returns : goal.returns
 returns c = chosen _ _ _ _ (ap not (ne_eqb _ _ c.if-d-identity.false)) refl

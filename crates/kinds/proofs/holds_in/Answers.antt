@@ -1,4 +1,4 @@
-use Prim.Native.Nat.{◌+◌, ◌-◌, ◌≤◌}
+use Prim.Native.Nat.{◌+◌, ◌-◌}
 use native.Mathlib.Omega.{arith}
 use mathlib.Core.Path.{◌≡◌, sym, ◌∙◌}
 use lib.ListN.{drop}
@@ -11,11 +11,6 @@ use Rattle.kinds.proofs.Searches.{holds-step, holds-end}
 use Rattle.kinds.proofs.holds_in.Goals as goal
 
 -- `kinds::holds_in` meets its contract.
-
--- Assumes nothing.
-
-abbrev invariant-loop : tie.invariant-loop
-invariant-loop s count t i₀ i = (i ≤ count) × (holds t (tags_of count s) ≡ holds t (drop i (tags_of count s)))
 
 -- the tags so far, and the slot that was read
 turn : (c : tie.After-slot invariant-loop decreases-loop) →

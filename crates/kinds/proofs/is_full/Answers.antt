@@ -1,14 +1,8 @@
 use mathlib.Core.Path.{sym, ◌∙◌}
 use Rattle.kinds.proofs.Tests.{not-both, then-both}
-use borrow.Author.Rules.{rules}
 use Rattle.kinds.proofs.is_full.Goals as goal
 
 -- `kinds::is_full` meets its contract.
-
--- Assumes nothing.
-
-holds-for-requires : tie.Need-holds-for-requires
-holds-for-requires c κs = search rules
 
 pub returns-then-holds_for : goal.returns-then-holds_for
 returns-then-holds_for c = not-both _ _ (sym c.holds_for.ensures ∙ c.if-holds_for.true)

@@ -1,15 +1,9 @@
 use mathlib.Core.Path.{ap, ◌∙◌}
 use Rattle.states.specs.declared.MemberState.{MemberState}
 use Rattle.kinds.specs.Phases.{with_record}
-use borrow.Author.Rules.{rules}
 use Rattle.kinds.proofs.keep.Goals as goal
 
 -- `kinds::keep` meets its contract.
-
--- Assumes nothing.
-
-mul-m : tie.Need-overflow-mul-m
-mul-m c = search rules
 
 pub returns : goal.returns
 returns c = c.put.ensures ∙ ap (λ (y : MemberState). with_record c.args.t1 c.args.i y) c.changed.ensures

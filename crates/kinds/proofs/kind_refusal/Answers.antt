@@ -2,15 +2,9 @@ use mathlib.Core.Path.{ap, ◌∙◌}
 use mathlib.Core.Bool.{Bool}
 use Rattle.states.specs.Steps.{when}
 use Rattle.kinds.specs.Refusals.{kind_in}
-use borrow.Author.Rules.{rules}
 use Rattle.kinds.proofs.kind_refusal.Goals as goal
 
 -- `kinds::kind_refusal` meets its contract.
-
--- Assumes nothing.
-
-mul-m : tie.Need-overflow-mul-m
-mul-m c = search rules
 
 pub returns-in-Hello : goal.returns-in-Hello
 unfolding kind_in

@@ -5,15 +5,9 @@ use borrow.Author.Tests.{le-leb, lt-leb}
 use Rattle.basis.specs.Choice.{chosen, passed}
 use native.Mathlib.Omega.{arith}
 use Rattle.kinds.specs.Refusals.{payload_in}
-use borrow.Author.Rules.{rules}
 use Rattle.kinds.proofs.payload_refusal.Goals as goal
 
 -- `kinds::payload_refusal` meets its contract.
-
--- Assumes nothing.
-
-edges-requires : tie.Need-edges-requires
-edges-requires c κs = search rules
 
 pub returns-then-edges-k : goal.returns-then-edges-k
 unfolding payload_in

@@ -6,15 +6,9 @@ use native.Mathlib.Omega.{arith}
 use Rattle.states.specs.Steps.{refusal_of}
 use Rattle.rows.specs.Nets.{net_in}
 use Rattle.kinds.proofs.Tests.{or_yes, or_no}
-use borrow.Author.Rules.{rules}
 use Rattle.kinds.proofs.refusal.Goals as goal
 
 -- `kinds::refusal` meets its contract.
-
--- Assumes nothing.
-
-is-abort-requires : tie.Need-is-abort-requires
-is-abort-requires c κs = search rules
 
 pub returns-then-is_abort : goal.returns-then-is_abort
 unfolding refusal_of
@@ -22,10 +16,8 @@ returns-then-is_abort c = or_yes _ _ _ (omega arith) (sym c.is_abort.ensures ∙
 
 pub returns-then-members-member : goal.returns-then-members-member
 unfolding refusal_of net_in
-returns-then-members-member c = let s = c in
-    let l : members s.args.plan.now ≤ s.args.member = omega arith in or_no _ _ _ _ (sym c.is_abort.ensures ∙ c.if-is_abort.false) (or_yes _ _ _ (omega arith) (le-leb _ _ l))
+returns-then-members-member c = let l : members c.args.plan.now ≤ c.args.member = omega arith in or_no _ _ _ _ (sym c.is_abort.ensures ∙ c.if-is_abort.false) (or_yes _ _ _ (omega arith) (le-leb _ _ l))
 
 pub returns : goal.returns
 unfolding refusal_of net_in
-returns c = let s = c in
-    let l : s.args.member < members s.args.plan.now = omega arith in or_no _ _ _ _ (sym c.is_abort.ensures ∙ c.if-is_abort.false) (or_no _ _ _ _ (lt-leb _ _ l) c.known_refusal.ensures)
+returns c = let l : c.args.member < members c.args.plan.now = omega arith in or_no _ _ _ _ (sym c.is_abort.ensures ∙ c.if-is_abort.false) (or_no _ _ _ _ (lt-leb _ _ l) c.known_refusal.ensures)

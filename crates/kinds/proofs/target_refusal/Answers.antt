@@ -1,15 +1,9 @@
 use mathlib.Core.Path.{refl, sym, ◌∙◌}
 use Rattle.basis.specs.Choice.{chosen, passed}
 use Rattle.kinds.specs.Refusals.{target_refusal}
-use borrow.Author.Rules.{rules}
 use Rattle.kinds.proofs.target_refusal.Goals as goal
 
 -- `kinds::target_refusal` meets its contract.
-
--- Assumes nothing.
-
-bad-target-requires : tie.Need-bad-target-requires
-bad-target-requires c κs = search rules
 
 pub returns-then-bad_target : goal.returns-then-bad_target
 unfolding target_refusal

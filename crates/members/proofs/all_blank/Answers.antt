@@ -1,16 +1,11 @@
 use Rattle.members.proofs.Steps.{every_more, blank-next}
-use Prim.Native.Nat.{◌≤◌, ◌-◌}
+use Prim.Native.Nat.{◌-◌}
 use mathlib.Core.Path.{◌≡◌, refl}
 use native.Mathlib.Omega.{arith}
-use Rattle.members.specs.Formed.{every, blank_at}
+use Rattle.members.specs.Formed.{every}
 use Rattle.members.proofs.all_blank.Goals as goal
 
 -- `members::all_blank` meets its contract.
-
--- Assumes nothing.
-
-abbrev invariant-loop : tie.invariant-loop
-invariant-loop n s rest all₀ k₀ all k = (k ≤ rest) × (all ≡ every (blank_at s n) k)
 
 pub loop-k-init : goal.loop-k-init
 unfolding every

@@ -1,25 +1,18 @@
 use Rattle.members.proofs.Steps.{every_more, formed-next}
-use Prim.Native.Nat.{◌≤◌, ◌-◌}
+use Prim.Native.Nat.{◌-◌}
 use mathlib.Core.Path.{◌≡◌, refl}
 use native.Mathlib.Omega.{arith}
-use Rattle.rows.specs.Nets.{net_in}
-use Rattle.members.specs.Formed.{every, formed_at}
+use Rattle.members.specs.Formed.{every}
 use Rattle.members.proofs.all_formed.Goals as goal
 
 -- `members::all_formed` meets its contract.
-
--- Assumes nothing.
-
-abbrev invariant-loop : tie.invariant-loop
-invariant-loop plan slab n s all₀ i₀ all i = (i ≤ n) × (all ≡ every (formed_at (net_in plan) s slab) i)
 
 pub loop-i-init : goal.loop-i-init
 unfolding every
 loop-i-init c = (omega arith, refl)
 
 pub formed_record-requires : goal.formed_record-requires
-formed_record-requires c = let k = c in
-    let small = k.before.before.before.requires.0.small k.loop.i (omega arith) in
+formed_record-requires c = let small = c.requires.0.small c.loop-i.i (omega arith) in
     (omega arith, omega arith, omega arith)
 
 pub loop-i-preserved : goal.loop-i-preserved

@@ -1,4 +1,4 @@
-use Prim.Native.Nat.{◌≤◌, ◌-◌, ◌+◌}
+use Prim.Native.Nat.{◌-◌, ◌+◌}
 use mathlib.Core.Path.{◌≡◌, refl}
 use native.Mathlib.Omega.{arith}
 use Rattle.rows.specs.Loops.{over_rows}
@@ -8,11 +8,6 @@ use borrow.Author.Rules.{rules}
 use Rattle.members.proofs.bounds_all.Goals as goal
 
 -- `members::bounds_all` meets its contract.
-
--- Assumes nothing.
-
-abbrev invariant-loop2 : tie.invariant-loop2
-invariant-loop2 plan earliest n all₀ j t first count c₀ all c = (c ≤ count) × (all ≡ bounds_to plan t j c all₀)
 
 pub loop-j-init : goal.loop-j-init
 unfolding bounds_in
@@ -37,54 +32,47 @@ transitive_source-i-requires c = let l = c in
     (p, omega arith)
 
 pub offset_bounds-all-i : goal.offset_bounds-all-i
-offset_bounds-all-i c = let l = c in
-    let k = l.before.before.before.before.before.before in
+offset_bounds-all-i c = let k = c in
     let p = k.before.before.before.requires in
     let h = p.transitive-rows.at k.loop.j (omega arith) in
-    let g = p.transitive-sources.at (l.before.before.before.transitive-first.result + l.before.loop2.c) (omega arith) in
+    let g = p.transitive-sources.at (c.transitive_first-first.result + c.loop-c.c) (omega arith) in
     search rules
 
 pub bounds-all-i : goal.bounds-all-i
-bounds-all-i c = let l = c in
-    let k = l.before.before.before.before.before.before in
+bounds-all-i c = let k = c in
     let p = k.before.before.before.requires in
     let h = p.transitive-rows.at k.loop.j (omega arith) in
-    let g = p.transitive-sources.at (l.before.before.before.transitive-first.result + l.before.loop2.c) (omega arith) in
+    let g = p.transitive-sources.at (c.transitive_first-first.result + c.loop-c.c) (omega arith) in
     search rules
 
 pub transitive_delay-requires : goal.transitive_delay-requires
-transitive_delay-requires c = let l = c in
-    let k = l.before.before.before.before.before.before in
+transitive_delay-requires c = let k = c in
     let p = k.before.before.before.requires in
     let h = p.transitive-rows.at k.loop.j (omega arith) in
     (p, omega arith)
 
 pub offset_bounds-all-i-in-loop-c : goal.offset_bounds-all-i-in-loop-c
-offset_bounds-all-i-in-loop-c c = let l = c in
-    let k = l.before.before.before.before.before.before in
+offset_bounds-all-i-in-loop-c c = let k = c in
     let p = k.before.before.before.requires in
     let h = p.transitive-rows.at k.loop.j (omega arith) in
-    let g = p.transitive-sources.at (l.before.before.before.transitive-first.result + l.before.loop2.c) (omega arith) in
+    let g = p.transitive-sources.at (c.transitive_first-first.result + c.loop-c.c) (omega arith) in
     search rules
 
 pub bounds-all-i-in-loop-c : goal.bounds-all-i-in-loop-c
-bounds-all-i-in-loop-c c = let l = c in
-    let k = l.before.before.before.before.before.before in
+bounds-all-i-in-loop-c c = let k = c in
     let p = k.before.before.before.requires in
     let h = p.transitive-rows.at k.loop.j (omega arith) in
-    let g = p.transitive-sources.at (l.before.before.before.transitive-first.result + l.before.loop2.c) (omega arith) in
+    let g = p.transitive-sources.at (c.transitive_first-first.result + c.loop-c.c) (omega arith) in
     search rules
 
 pub loop-c-preserved : goal.loop-c-preserved
-loop-c-preserved c = let l = c in
-    let source = c.transitive_source-i in (
+loop-c-preserved c = let source = c.transitive_source-i in (
       omega arith,
-      bound-more _ _ _ _ _ _ _ _ _ _ l.before.before.before.transitive-first.ensures source.ensures c.transitive_delay.ensures l.before.loop2.invariant.1 c.lowered.ensures,
+      bound-more _ _ _ _ _ _ _ _ _ _ c.transitive_first-first.ensures source.ensures c.transitive_delay.ensures c.loop-c.invariant.1 c.lowered.ensures,
     )
 
 pub loop-j-preserved : goal.loop-j-preserved
-loop-j-preserved c = let l = c in
-    (omega arith, bounds-more _ _ _ _ _ _ _ l.loop.invariant.1 c.loop-c.invariant.1 (omega arith) c.transitive_count-count.ensures)
+loop-j-preserved c = (omega arith, bounds-more _ _ _ _ _ _ _ c.loop-j.invariant.1 c.loop-c.invariant.1 (omega arith) c.transitive_count-count.ensures)
 
 pub returns : goal.returns
 returns c = let e : c.loop-j.j ≡ c.members-n.result = omega arith in cc

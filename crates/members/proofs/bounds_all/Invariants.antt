@@ -1,7 +1,11 @@
 use Prim.Native.Nat.{◌≤◌, ◌-◌}
 use mathlib.Core.Path.{◌≡◌}
-use Rattle.members.specs.Rules.{bounds_in}
+use Rattle.members.specs.Rules.{bounds_to, bounds_in}
 use Rattle.members.proofs.bounds_all.Given as goal
+
+-- Assumes nothing.
+abbrev pub invariant-loop-c : goal.invariant-loop-c
+invariant-loop-c l = (l.c ≤ l.count) × (l.all ≡ bounds_to l.plan l.t l.j l.c l.initial.all)
 
 abbrev pub decreases-loop-c : goal.decreases-loop-c
 decreases-loop-c l = l.count - l.c

@@ -1,4 +1,4 @@
-use Prim.Native.Nat.{◌≤◌, ◌-◌, ◌+◌}
+use Prim.Native.Nat.{◌-◌, ◌+◌}
 use mathlib.Core.Path.{◌≡◌, refl}
 use native.Mathlib.Omega.{arith}
 use native.Mathlib.Numerals.{add-one}
@@ -8,11 +8,6 @@ use borrow.Author.Rules.{rules}
 use Rattle.members.proofs.coming.Goals as goal
 
 -- `members::coming` meets its contract.
-
--- Assumes nothing.
-
-abbrev invariant-loop : tie.invariant-loop
-invariant-loop plan j earliest first count x₀ c₀ x c = (c ≤ count) × (x ≡ coming_in plan earliest j c)
 
 pub loop-c-init : goal.loop-c-init
 unfolding coming_in over_rows
@@ -31,30 +26,26 @@ transitive_source-i-requires c = let l = c in
     (p.0, omega arith)
 
 pub offset_bounds-earliest-i : goal.offset_bounds-earliest-i
-offset_bounds-earliest-i c = let l = c in
-    let p = l.before.before.before.before.before.requires in
+offset_bounds-earliest-i c = let p = c.requires in
     let h = p.0.transitive-rows.at _ p.3 in
-    let g = p.0.transitive-sources.at (l.before.before.before.transitive-first.result + l.before.loop.c) (omega arith) in
+    let g = p.0.transitive-sources.at (c.transitive_first-first.result + c.loop-c.c) (omega arith) in
     search rules
 
 pub bounds-earliest-i : goal.bounds-earliest-i
-bounds-earliest-i c = let l = c in
-    let p = l.before.before.before.before.before.requires in
+bounds-earliest-i c = let p = c.requires in
     let h = p.0.transitive-rows.at _ p.3 in
-    let g = p.0.transitive-sources.at (l.before.before.before.transitive-first.result + l.before.loop.c) (omega arith) in
+    let g = p.0.transitive-sources.at (c.transitive_first-first.result + c.loop-c.c) (omega arith) in
     search rules
 
 pub transitive_delay-requires : goal.transitive_delay-requires
-transitive_delay-requires c = let l = c in
-    let p = l.before.before.before.before.before.requires in
+transitive_delay-requires c = let p = c.requires in
     let h = p.0.transitive-rows.at _ p.3 in
     (p.0, omega arith)
 
 pub exactly-requires : goal.exactly-requires
-exactly-requires c = let l = c in
-    let p = l.before.before.before.before.before.requires in
+exactly-requires c = let p = c.requires in
     let h = p.0.transitive-rows.at _ p.3 in
-    (p.2.at _, omega (arith, p.1.transitive (l.before.before.before.transitive-first.result + l.before.loop.c) (omega arith)))
+    (p.2.at _, omega (arith, p.1.transitive (c.transitive_first-first.result + c.loop-c.c) (omega arith)))
 
 pub loop-c-preserved : goal.loop-c-preserved
 unfolding coming_in over_rows

@@ -1,16 +1,11 @@
-use Prim.Native.Nat.{◌≤◌, ◌-◌}
+use Prim.Native.Nat.{◌-◌}
 use mathlib.Core.Path.{◌≡◌, refl}
 use native.Mathlib.Omega.{arith}
 use native.Mathlib.Numerals.{add-one}
-use Rattle.members.specs.Rules.{tags_to, completed_at}
+use Rattle.members.specs.Rules.{tags_to}
 use Rattle.members.proofs.completed_all.Goals as goal
 
 -- `members::completed_all` meets its contract.
-
--- Assumes nothing.
-
-abbrev invariant-loop : tie.invariant-loop
-invariant-loop n s all₀ i₀ all i = (i ≤ n) × (all ≡ tags_to (completed_at s) i)
 
 pub loop-i-init : goal.loop-i-init
 unfolding tags_to

@@ -1,4 +1,4 @@
-use Prim.Native.Nat.{◌≤◌, ◌-◌, ◌+◌}
+use Prim.Native.Nat.{◌-◌, ◌+◌}
 use mathlib.Core.Path.{◌≡◌, refl}
 use native.Mathlib.Omega.{arith}
 use native.Mathlib.Numerals.{add-one}
@@ -8,11 +8,6 @@ use borrow.Author.Rules.{rules}
 use Rattle.members.proofs.done.Goals as goal
 
 -- `members::done` meets its contract.
-
--- Assumes nothing.
-
-abbrev invariant-loop : tie.invariant-loop
-invariant-loop plan j completed first count x₀ c₀ x c = (c ≤ count) × (x ≡ done_in plan completed j c)
 
 pub loop-c-init : goal.loop-c-init
 unfolding done_in over_rows
@@ -31,30 +26,26 @@ direct_source-i-requires c = let l = c in
     (p.0, omega arith)
 
 pub offset_bounds-completed-i : goal.offset_bounds-completed-i
-offset_bounds-completed-i c = let l = c in
-    let p = l.before.before.before.before.before.requires in
+offset_bounds-completed-i c = let p = c.requires in
     let h = p.0.direct-rows.at _ p.3 in
-    let g = p.0.direct-sources.at (l.before.before.before.direct-first.result + l.before.loop.c) (omega arith) in
+    let g = p.0.direct-sources.at (c.direct_first-first.result + c.loop-c.c) (omega arith) in
     search rules
 
 pub bounds-completed-i : goal.bounds-completed-i
-bounds-completed-i c = let l = c in
-    let p = l.before.before.before.before.before.requires in
+bounds-completed-i c = let p = c.requires in
     let h = p.0.direct-rows.at _ p.3 in
-    let g = p.0.direct-sources.at (l.before.before.before.direct-first.result + l.before.loop.c) (omega arith) in
+    let g = p.0.direct-sources.at (c.direct_first-first.result + c.loop-c.c) (omega arith) in
     search rules
 
 pub direct_delay-requires : goal.direct_delay-requires
-direct_delay-requires c = let l = c in
-    let p = l.before.before.before.before.before.requires in
+direct_delay-requires c = let p = c.requires in
     let h = p.0.direct-rows.at _ p.3 in
     (p.0, omega arith)
 
 pub passed-requires : goal.passed-requires
-passed-requires c = let l = c in
-    let p = l.before.before.before.before.before.requires in
+passed-requires c = let p = c.requires in
     let h = p.0.direct-rows.at _ p.3 in
-    (p.2.at _, omega (arith, p.1.direct (l.before.before.before.direct-first.result + l.before.loop.c) (omega arith)))
+    (p.2.at _, omega (arith, p.1.direct (c.direct_first-first.result + c.loop-c.c) (omega arith)))
 
 pub loop-c-preserved : goal.loop-c-preserved
 unfolding done_in over_rows

@@ -1,14 +1,8 @@
 use mathlib.Core.Path.{sym, ◌∙◌}
 use Rattle.members.proofs.Delays.{exact, near}
-use borrow.Author.Rules.{rules}
 use Rattle.members.proofs.exactly.Goals as goal
 
 -- `members::exactly` meets its contract.
-
--- Assumes nothing.
-
-delay-requires : tie.Need-delay-requires
-delay-requires c κs = search rules
 
 pub returns-in-To : goal.returns-in-To
 returns-in-To c = let a = c.args in

@@ -1,13 +1,7 @@
 use Rattle.members.proofs.Delays.{past-none, past-some}
-use borrow.Author.Rules.{rules}
 use Rattle.members.proofs.passed.Goals as goal
 
 -- `members::passed` meets its contract.
-
--- Assumes nothing.
-
-exactly-requires : tie.Need-exactly-requires
-exactly-requires c κs = search rules
 
 pub returns-then-d-eq0 : goal.returns-then-d-eq0
 returns-then-d-eq0 c = past-none _ c.args.t _ c.if-d-eq0.true c.exactly-sum.ensures

@@ -4,15 +4,9 @@ use Rattle.recognised.proofs.Complete.{header}
 use mathlib.Core.Path.{sym}
 use Rattle.recognised.proofs.Cells.{not_taken, not_left}
 use native.Mathlib.Omega.{arith}
-use borrow.Author.Rules.{rules}
 use Rattle.recognised.proofs.recognise.Goals as goal
 
 -- `recognised::recognise` meets its contract.
-
--- Assumes nothing.
-
-header-requires : tie.Need-header-requires
-header-requires c κs = search rules
 
 pub returns-then-not-header : goal.returns-then-not-header
 returns-then-not-header c = sym (no-image c.args.plan.now (λ I. c.header.ensures.wrong (not_taken _ c.if-not-header.true) (header c.args.plan.now I)))

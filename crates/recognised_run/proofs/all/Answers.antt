@@ -1,14 +1,8 @@
-use Prim.Native.Nat.{◌≤◌, ◌-◌}
-use lib.ListN.{length}
+use Prim.Native.Nat.{◌-◌}
 use native.Mathlib.Omega.{arith}
 use Rattle.recognised_run.proofs.all.Goals as goal
 
 -- `recognised_run::all` ends: each turn goes on, and none past the end.
-
--- Assumes nothing.
-
-abbrev invariant-loop : tie.invariant-loop
-invariant-loop bytes at₀ at = at ≤ length bytes
 
 pub loop-at-init : goal.loop-at-init
 loop-at-init c = omega arith

@@ -2,7 +2,7 @@ use borrow.Author.Rules.{rules}
 use Prim.Native.Nat.{ℕ, ◌<◌, ◌+◌, ◌-◌, ◌*◌}
 use mathlib.Core.Path.{◌≡◌, sym, ap, ◌∙◌}
 use native.Mathlib.Omega.{arith}
-use borrow.Author.Tests.{not_true, not_false}
+use borrow.Author.Tests.{not-true, not-false}
 use lib.ListN.{get_or, length-set}
 use Rattle.routes.specs.Trails.{unvisited}
 use Rattle.routes.proofs.Trails.{marked, leaving_true, leaves-on, stands, steps, repeats}
@@ -48,7 +48,7 @@ gone : (t : ℕ) (c : scan-lts.Else1 (
   visit-below t,
   visit.Post,
 ) (scan-at t) scan.Post) → let a = c.before.before.before.before.before.before.before.args in (get_or a.sources.now a.edge 0 ≡ a.member) × (get_or a.kept.now a.edge 0 ≡ 0 → ⊥)
-gone t c = leaving_true _ _ _ _ (sym c.before.leaving.ensures ∙ not_false _ c.if1.false)
+gone t c = leaving_true _ _ _ _ (sym c.before.leaving.ensures ∙ not-false _ c.if1.false)
 
 -- it leads to a member
 leads : (t : ℕ) (c : scan-lts.Else1 (
@@ -104,7 +104,7 @@ scan-scan-requires : (t : ℕ) → scan-lts.Need-scan-requires (
 scan-scan-requires t c κs =
     let s = c.before.before.before.before.before.before.before.before.before in
     let p = s.requires.1 in
-    (omega (arith, s.requires.1.6.ahead, s.requires.1.6.inside), (p.0, p.1, p.2, p.3, p.4, p.5, leaves-on _ _ _ _ p.6 (sym c.before.before.before.leaving.ensures ∙ not_true _ c.before.before.if1.true), p.7))
+    (omega (arith, s.requires.1.6.ahead, s.requires.1.6.inside), (p.0, p.1, p.2, p.3, p.4, p.5, leaves-on _ _ _ _ p.6 (sym c.before.before.before.leaving.ensures ∙ not-true _ c.before.before.if1.true), p.7))
 
 scan-same-length : (t : ℕ) → scan-lts.Need-same-length (
   leaving-reads.Asked,

@@ -14,5 +14,4 @@ closes-requires c = let r = c.read-reading.ensures in
     (rw r (reading-fits _), omega arith)
 
 pub returns : goal.returns
-returns c = let k = c in
-    accepts-by _ _ _ _ k.before.before.before.read.ensures k.if1.false (omega arith) c.closes.ensures
+returns c = accepts-by _ _ _ _ c.read-reading.ensures c.if-refusal-ne0.false (omega arith) c.closes.ensures

@@ -4,11 +4,6 @@ use Rattle.rows.proofs.in_source.Goals as goal
 
 -- `rows::in_source` meets its contract.
 
--- Assumes nothing.
-
-mul-number : tie.Need-overflow-mul-number
-mul-number c = search rules
-
 pub returns : goal.returns
 unfolding field
 returns c = search rules

@@ -4,11 +4,6 @@ use Rattle.rows.proofs.wide_in_source.Goals as goal
 
 -- `rows::wide_in_source` meets its contract.
 
--- Assumes nothing.
-
-mul-read-u64 : tie.Need-overflow-mul-read-u64
-mul-read-u64 c = search rules
-
 pub returns : goal.returns
 unfolding field
 returns c = search rules

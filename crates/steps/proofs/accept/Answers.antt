@@ -6,7 +6,7 @@ use Rattle.steps.proofs.Ties.{opened-state, opened-few, effect-ready, accept-lea
 use Rattle.steps.proofs.accept.Goals as goal
 
 pub first_delivery-f-requires : goal.first_delivery-f-requires
-first_delivery-f-requires c = let s = c in (s.requires.0.laid, routed _ s.requires.0.laid s.args.s _ s.requires.1.fits s.requires.1.formed (typed s.args.s _ s.well-formed.1.0).whole s.args.i s.args.q s.requires.3)
+first_delivery-f-requires c = (c.requires.0.laid, routed _ c.requires.0.laid c.args.s _ c.requires.1.fits c.requires.1.formed (typed c.args.s _ c.well_formed.1.0).whole c.args.i c.args.q c.requires.3)
 
 pub after-requires : goal.after-requires
 after-requires c = let s = c in

@@ -9,7 +9,7 @@ unfolding after_in
 returns-then-is_hello c = chosen _ _ _ _ (sym c.is_hello.ensures ∙ c.if-is_hello.true) (rw c.members.ensures at c.welcome.ensures)
 
 pub follow-requires : goal.follow-requires
-follow-requires c = let s = c in (s.requires.0.laid, s.requires.0.mild, s.requires.1, fewer-below _ s.requires.0.ordered _ s.requires.1, s.requires.2, s.requires.3)
+follow-requires c = (c.requires.0.laid, c.requires.0.mild, c.requires.1, fewer-below _ c.requires.0.ordered _ c.requires.1, c.requires.2, c.requires.3)
 
 pub returns : goal.returns
 unfolding after_in

@@ -7,8 +7,7 @@ use Rattle.steps.proofs.step.Goals as goal
 
 pub returns-then-s-gt0 : goal.returns-then-s-gt0
 unfolding step session_of
-returns-then-s-gt0 c = let s = c in
-    rw (lt-ltb _ _ c.if-s-gt0.true) (over-leaves _ s.requires.0 s.args.s _ s.requires.1 (typed s.args.s _ s.well-formed.1.0) _ _ _ _ c.over.ensures)
+returns-then-s-gt0 c = rw (lt-ltb _ _ c.if-s-gt0.true) (over-leaves _ c.requires.0 c.args.s _ c.requires.1 (typed c.args.s _ c.well_formed.1.0) _ _ _ _ c.over.ensures)
 
 pub returns : goal.returns
 unfolding step session_of

@@ -1,12 +1,6 @@
-use borrow.Author.Rules.{rules}
 use Rattle.views.proofs.counted.Goals as goal
 
 -- `views::counted` meets its contract.
-
--- Assumes nothing.
-
-members-requires : tie.Need-members-requires
-members-requires c κs = search rules
 
 pub returns : goal.returns
 returns c = λ i. record {

@@ -1,10 +1,6 @@
-use Rattle.recognised.proofs.Walks.{Claimed, claimed_none, claimed_more, claimed_all}
-use Rattle.recognised.specs.Walks.{Readable}
-use Rattle.recognised.specs.Words.{brief, Plains}
-use Rattle.rows.specs.Rows.{transitives, transitive_delay}
-use lib.ListN.{length}
+use Rattle.recognised.proofs.Walks.{claimed_none, claimed_more, claimed_all}
 use mathlib.Core.Path.{◌≡◌, sym}
-use Prim.Native.Nat.{ℕ, ◌≤◌, ◌<◌, ◌-◌}
+use Prim.Native.Nat.{◌-◌}
 use borrow.Author.Count.{below_more}
 use Rattle.recognised.proofs.Cells.{tells_true, tells_false, not_taken, not_left, never}
 use native.Mathlib.Omega.{arith}
@@ -12,18 +8,11 @@ use Rattle.recognised.proofs.claims.claim.Goals as goal
 
 -- `recognised::claim` meets its contract.
 
--- Assumes nothing.
-
-abbrev invariant-loop : tie.invariant-loop
-invariant-loop plan n kind₀ value₀ t₀ kind value t =
-    (length kind ≡ 1024) × (length value ≡ 1024) × (t ≤ n) × ((x : ℕ) → x < t → Readable plan x) × Claimed plan kind value t
-    × (((k : ℕ) → k < transitives plan → transitive_delay plan k < brief) → Plains kind₀ value₀ → Plains kind value)
-
 pub loop-t-init : goal.loop-t-init
-loop-t-init c = let s = c in (omega arith, omega arith, omega arith, λ x l. absurd (omega arith), claimed_none _ _ _ s.requires.4, λ h P. P)
+loop-t-init c = (omega arith, omega arith, omega arith, λ x l. absurd (omega arith), claimed_none _ _ _ c.requires.4, λ h P. P)
 
 pub claim_member-requires : goal.claim_member-requires
-claim_member-requires c = let s = c in let l = c.loop-t in (omega arith, omega arith, s.requires.2, s.requires.3, omega arith, λ x a. l.invariant.4.left x l.t a (omega arith) (omega (arith, s.requires.2.few)))
+claim_member-requires c = let l = c.loop-t in (omega arith, omega arith, c.requires.2, c.requires.3, omega arith, λ x a. l.invariant.4.left x l.t a (omega arith) (omega (arith, c.requires.2.few)))
 
 pub shape_of-kind-then-not-claim_member : goal.shape_of-kind-then-not-claim_member
 shape_of-kind-then-not-claim_member c = let r = c.claim_member in omega (arith, r.auto.1.1.1.0)
@@ -44,12 +33,12 @@ loop-t-smaller c = omega arith
 pub loop-t-preserved : goal.loop-t-preserved
 loop-t-preserved c = let l = c.loop-t in
     let r = c.claim_member in
-    let s = c in (
+    (
       omega (arith, r.auto.1.1.1.0),
       omega (arith, r.auto.1.1.1.1.0),
       omega arith,
       below_more _ _ l.invariant.3 (r.ensures.0.right (not_left _ c.if-not-claim_member.false)),
-      claimed_more _ l.kind l.value _ _ l.t (omega (arith, s.requires.2.few)) l.invariant.4 (r.ensures.1.0 (not_left _ c.if-not-claim_member.false)),
+      claimed_more _ l.kind l.value _ _ l.t (omega (arith, c.requires.2.few)) l.invariant.4 (r.ensures.1.0 (not_left _ c.if-not-claim_member.false)),
       λ h P. r.ensures.1.1 (not_left _ c.if-not-claim_member.false) h (l.invariant.5 h P),
     )
 
@@ -61,6 +50,5 @@ shape_of-value c = omega arith
 
 pub returns : goal.returns
 returns c = let l = c.loop-t in
-    let s = c in
-    let e : l.t ≡ s.args.n = omega arith in
-    (tells_true (λ x h. l.invariant.3 x (omega arith)), (λ y. claimed_all _ _ _ s.args.n (omega (arith, s.requires.2.few)) (rw (← e) l.invariant.4), λ y. l.invariant.5))
+    let e : l.t ≡ c.args.n = omega arith in
+    (tells_true (λ x h. l.invariant.3 x (omega arith)), (λ y. claimed_all _ _ _ c.args.n (omega (arith, c.requires.2.few)) (rw (← e) l.invariant.4), λ y. l.invariant.5))

@@ -2,15 +2,9 @@ use Rattle.recognised.proofs.Walks.{readable_of, names_of, within_of, filled_of}
 use mathlib.Core.Path.{sym, ◌∙◌}
 use Rattle.recognised.proofs.Cells.{tells_false, never}
 use native.Mathlib.Omega.{arith}
-use borrow.Author.Rules.{rules}
 use Rattle.recognised.proofs.claims.claim_member.Goals as goal
 
 -- `recognised::claim_member` meets its contract.
-
--- Assumes nothing.
-
-number-requires : tie.Need-number-requires
-number-requires c κs = search rules
 
 pub returns-then-rows-first : goal.returns-then-rows-first
 returns-then-rows-first c = (tells_false (λ R. let w = within_of c.args.plan.now c.args.t c.number-place.result c.in_member-first.result c.in_member-count.result c.args.n (omega arith) c.in_member-first.ensures c.in_member-count.ensures c.requires.3 R in omega arith), (λ e. never (sym e), λ e. never (sym e)))

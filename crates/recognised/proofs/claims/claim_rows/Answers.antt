@@ -1,29 +1,17 @@
 use Rattle.recognised.proofs.Matrix.{filled_none, filled_more}
 use Rattle.recognised.proofs.Cells.{tells_true, tells_false, never}
 use Rattle.recognised.proofs.Words.{plains-set}
-use Rattle.recognised.specs.Words.{brief, Plains}
-use Rattle.recognised.specs.Cells.{Filled}
-use Rattle.rows.specs.Loops.{delay_of}
-use Rattle.rows.specs.Rows.{field}
-use lib.ListN.{length, length-set}
+use lib.ListN.{length-set}
 use mathlib.Core.Path.{◌≡◌, sym}
-use Prim.Native.Nat.{ℕ, ◌≤◌, ◌<◌, ◌+◌, ◌-◌}
+use Prim.Native.Nat.{◌-◌}
 use borrow.Author.Count.{below_more}
 use native.Mathlib.Omega.{arith}
 use Rattle.recognised.proofs.claims.claim_rows.Goals as goal
 
 -- `recognised::claim_rows` meets its contract.
 
--- Assumes nothing.
-
-abbrev invariant-loop : tie.invariant-loop
-invariant-loop plan place k c t n kind₀ value₀ q₀ kind value q =
-    (length kind ≡ 1024) × (length value ≡ 1024) × (q ≤ c) × ((x : ℕ) → x < q → field 4 place 16 0 (k + x) plan < n)
-    × Filled kind₀ value₀ kind value t (delay_of (λ (x : ℕ). field 4 place 16 0 x plan) (λ (x : ℕ). field 8 place 16 8 x plan) k q)
-    × (((x : ℕ) → x < q → field 8 place 16 8 (k + x) plan < brief) → Plains kind₀ value₀ → Plains kind value)
-
 pub loop-q-init : goal.loop-q-init
-loop-q-init c = let s = c in (omega arith, omega arith, omega arith, λ x l. absurd (omega arith), filled_none _ _ _ _ s.requires.2 _ _ s.requires.5, λ h P. P)
+loop-q-init c = (omega arith, omega arith, omega arith, λ x l. absurd (omega arith), filled_none _ _ _ _ c.requires.2 _ _ c.requires.5, λ h P. P)
 
 pub overflow_add-k : goal.overflow_add-k
 overflow_add-k c = omega arith
@@ -69,13 +57,12 @@ pub loop-q-smaller : goal.loop-q-smaller
 loop-q-smaller c = omega arith
 
 pub loop-q-preserved : goal.loop-q-preserved
-loop-q-preserved c = let s = c in
-    let l = c.loop-q in (
+loop-q-preserved c = let l = c.loop-q in (
       simp length-set (omega arith),
       simp length-set (omega arith),
       omega arith,
       below_more _ _ l.invariant.3 (omega arith),
-      filled_more _ _ s.args.k s.args.t s.requires.2 _ _ l.kind l.value l.q _ _ (omega arith) (omega arith) (omega arith) (omega arith) (sym c.in_source-s.ensures) (sym c.wide_in_source-d.ensures) l.invariant.4,
+      filled_more _ _ c.args.k c.args.t c.requires.2 _ _ l.kind l.value l.q _ _ (omega arith) (omega arith) (omega arith) (omega arith) (sym c.in_source-s.ensures) (sym c.wide_in_source-d.ensures) l.invariant.4,
       λ h P. plains-set _ _ _ _ (omega arith) (omega arith) (omega arith) (omega (arith, h l.q (omega arith))) (l.invariant.5 (λ x y. h x (omega arith)) P),
     )
 

@@ -11,9 +11,8 @@ use Rattle.recognised.proofs.claims.minima_right.Goals as goal
 -- `recognised::minima_right` meets its contract.
 
 -- Assumes nothing.
-
-stands-requires : tie.Need-stands-requires
-stands-requires c κs = let s = c.before.before.before in (search rules, search rules, s.requires.2, s.requires.3, s.requires.4, s.requires.5)
+pub stands-requires : goal.stands-requires
+stands-requires c = (search rules, search rules, c.requires.2, c.requires.3, c.requires.4, c.requires.5)
 
 pub returns-then-not-stands : goal.returns-then-not-stands
 returns-then-not-stands c = tells_false (λ X. c.stands.ensures.wrong (not_taken _ c.if-not-stands.true) X.minimal)
@@ -28,12 +27,11 @@ pub number-requires : goal.number-requires
 number-requires c = let H = c.requires.2.header in omega (arith, H.long)
 
 pub source_table-requires : goal.source_table-requires
-source_table-requires c = let s = c in let H = s.requires.2.header in (search rules, search rules, H, s.requires.3, search rules, omega (arith, H.few-transitives), omega (arith, H.transitive-place, H.whole))
+source_table-requires c = let H = c.requires.2.header in (search rules, search rules, H, c.requires.3, search rules, omega (arith, H.few-transitives), omega (arith, H.transitive-place, H.whole))
 
 pub returns-then-not-source_table : goal.returns-then-not-source_table
-returns-then-not-source_table c = let s = c in
-    let H = s.requires.2.header in
-    let told = tabled_place s.args.plan.now source_row 16 (transitive_first s.args.plan.now) (transitive_count s.args.plan.now) s.args.n _ _ _ (transitives_at s.args.plan.now) _ (transitives s.args.plan.now)
+returns-then-not-source_table c = let H = c.requires.2.header in
+    let told = tabled_place c.args.plan.now source_row 16 (transitive_first c.args.plan.now) (transitive_count c.args.plan.now) c.args.n _ _ _ (transitives_at c.args.plan.now) _ (transitives c.args.plan.now)
     (c.number-transitives.ensures ∙ H.transitive-place) c.number.ensures c.source_table.ensures in
     tells_false (λ X. told.wrong (not_taken _ c.if-not-source_table.true) X.transitive)
 
@@ -41,13 +39,12 @@ pub number-requires-2 : goal.number-requires-2
 number-requires-2 c = let H = c.requires.2.header in omega (arith, H.long)
 
 pub target_table-requires : goal.target_table-requires
-target_table-requires c = let s = c in let H = s.requires.2.header in (search rules, search rules, H, s.requires.3, omega (arith, H.few-downstreams), omega (arith, H.downstream-place, H.whole))
+target_table-requires c = let H = c.requires.2.header in (search rules, search rules, H, c.requires.3, omega (arith, H.few-downstreams), omega (arith, H.downstream-place, H.whole))
 
 pub returns : goal.returns
-returns c = let s = c in
-    let H = s.requires.2.header in
-    let first = tabled_place s.args.plan.now source_row 16 (transitive_first s.args.plan.now) (transitive_count s.args.plan.now) s.args.n _ _ _ (transitives_at s.args.plan.now) _ (transitives s.args.plan.now)
+returns c = let H = c.requires.2.header in
+    let first = tabled_place c.args.plan.now source_row 16 (transitive_first c.args.plan.now) (transitive_count c.args.plan.now) c.args.n _ _ _ (transitives_at c.args.plan.now) _ (transitives c.args.plan.now)
     (c.number-transitives.ensures ∙ H.transitive-place) c.number.ensures c.source_table.ensures in
-    let second = tabled_place s.args.plan.now target_row 4 (downstream_first s.args.plan.now) (downstream_count s.args.plan.now) s.args.n _ _ _ (downstreams_at s.args.plan.now) _ (downstreams s.args.plan.now)
+    let second = tabled_place c.args.plan.now target_row 4 (downstream_first c.args.plan.now) (downstream_count c.args.plan.now) c.args.n _ _ _ (downstreams_at c.args.plan.now) _ (downstreams c.args.plan.now)
     (c.number-downstreams.ensures ∙ H.downstream-place) c.number-2.ensures c.target_table.ensures in
     tells-same (λ d. record { minimal = c.stands.ensures.right (not_left _ c.if-not-stands.false); transitive = first.right (not_left _ c.if-not-source_table.false); downstream = d }) (λ X. X.downstream) second

@@ -11,11 +11,9 @@ use Rattle.recognised.proofs.claims.short_at.Goals as goal
 -- `recognised::short_at` meets its contract.
 
 -- Assumes nothing.
-
-returns : tie.Need-returns
-returns c =
-    let e = cell_cut c.before.args.kind c.before.args.value (omega arith) in
-    record { right = λ t l. omega (arith, leb-true); wrong = λ f P. let q : cell c.before.args.kind c.before.args.value ≤ limit = P (omega arith) in omega (arith, leb-false) }
+pub returns-then-kind-eq0 : goal.returns-then-kind-eq0
+returns-then-kind-eq0 c = let e = cell_cut c.args.kind c.args.value (omega arith) in
+    record { right = λ t l. omega (arith, leb-true); wrong = λ f P. let q : cell c.args.kind c.args.value ≤ limit = P (omega arith) in omega (arith, leb-false) }
 
 pub returns : goal.returns
 returns c = tells_true (λ l. absurd (not-near _ _ (omega arith) l))

@@ -1,17 +1,10 @@
-use Rattle.recognised.specs.Recognised.{limit}
-use Rattle.rows.specs.Rows.{edge_delay}
-use Prim.Native.Nat.{ℕ, ◌≤◌, ◌<◌, ◌-◌}
+use Prim.Native.Nat.{◌-◌}
 use borrow.Author.Count.{below_more}
 use Rattle.recognised.proofs.Cells.{tells_true, tells_false}
 use native.Mathlib.Omega.{arith}
 use Rattle.recognised.proofs.claims.short_edges.Goals as goal
 
 -- `recognised::short_edges` meets its contract.
-
--- Assumes nothing.
-
-abbrev invariant-loop : tie.invariant-loop
-invariant-loop plan e k₀ k = (k ≤ e) × ((x : ℕ) → x < k → edge_delay plan x ≤ limit)
 
 pub loop-k-init : goal.loop-k-init
 loop-k-init c = (omega arith, λ x l. absurd (omega arith))

@@ -1,18 +1,11 @@
-use Rattle.recognised.specs.Recognised.{limit}
 use Rattle.delays.specs.Cells.{grid}
-use Rattle.delays.specs.Graph.{far}
-use Prim.Native.Nat.{ℕ, ◌≤◌, ◌<◌, ◌-◌}
+use Prim.Native.Nat.{◌-◌}
 use borrow.Author.Count.{below_more}
 use Rattle.recognised.proofs.Cells.{tells_true, tells_false, not_taken, not_left}
 use native.Mathlib.Omega.{arith}
 use Rattle.recognised.proofs.claims.short_row.Goals as goal
 
 -- `recognised::short_row` meets its contract.
-
--- Assumes nothing.
-
-abbrev invariant-loop : tie.invariant-loop
-invariant-loop kind value s n t₀ t = (t ≤ n) × ((x : ℕ) → x < t → grid kind value s x < far → grid kind value s x ≤ limit)
 
 pub loop-t-init : goal.loop-t-init
 loop-t-init c = (omega arith, λ x l. absurd (omega arith))

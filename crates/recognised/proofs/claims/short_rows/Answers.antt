@@ -1,18 +1,10 @@
 use borrow.Author.Count.{below_more}
-use Prim.Native.Nat.{ℕ, ◌≤◌, ◌<◌, ◌-◌}
+use Prim.Native.Nat.{◌-◌}
 use native.Mathlib.Omega.{arith}
-use Rattle.delays.specs.Graph.{far}
-use Rattle.delays.specs.Cells.{grid}
-use Rattle.recognised.specs.Recognised.{limit}
 use Rattle.recognised.proofs.Cells.{tells_true, tells_false, not_taken, not_left}
 use Rattle.recognised.proofs.claims.short_rows.Goals as goal
 
 -- `recognised::short_rows` meets its contract.
-
--- Assumes nothing.
-
-abbrev invariant-loop : tie.invariant-loop
-invariant-loop kind value n s₀ s = (s ≤ n) × ((x : ℕ) → x < s → (t : ℕ) → t < n → grid kind value x t < far → grid kind value x t ≤ limit)
 
 pub loop-s-init : goal.loop-s-init
 loop-s-init c = (omega arith, λ x l. absurd (omega arith))

@@ -1,15 +1,9 @@
 use native.Mathlib.Omega.{arith}
 use borrow.Author.Tests.{ltb-true, ltb-false}
 use Rattle.recognised.proofs.Cells.{tells_true, tells_false}
-use borrow.Author.Rules.{rules}
 use Rattle.recognised.proofs.frame.edge_right.Goals as goal
 
 -- `recognised::edge_right` meets its contract.
-
--- Assumes nothing.
-
-edge-source-requires : tie.Need-edge-source-requires
-edge-source-requires c κs = search rules
 
 pub returns-then-n-edge_source : goal.returns-then-n-edge_source
 returns-then-n-edge_source c = tells_false (λ P. omega arith)

@@ -1,16 +1,10 @@
 use borrow.Author.Count.{below_more}
-use Prim.Native.Nat.{ℕ, ◌≤◌, ◌<◌, ◌-◌}
+use Prim.Native.Nat.{◌-◌}
 use native.Mathlib.Omega.{arith}
-use Rattle.recognised.specs.Facts.{EdgeRight}
 use Rattle.recognised.proofs.Cells.{tells_true, tells_false, not_taken, not_left}
 use Rattle.recognised.proofs.frame.edges_right.Goals as goal
 
 -- `recognised::edges_right` meets its contract.
-
--- Assumes nothing.
-
-abbrev invariant-loop : tie.invariant-loop
-invariant-loop plan n e k₀ k = (k ≤ e) × ((x : ℕ) → x < k → EdgeRight plan x)
 
 pub loop-k-init : goal.loop-k-init
 loop-k-init c = (omega arith, λ x l. absurd (omega arith))

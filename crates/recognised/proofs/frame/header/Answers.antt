@@ -5,9 +5,8 @@ use Rattle.recognised.proofs.frame.header.Goals as goal
 -- `recognised::header` meets its contract.
 
 -- Assumes nothing.
-
-returns : tie.Need-returns
-returns c = tells_false (λ P. omega arith)
+pub returns-then-plan-lt-HEADER : goal.returns-then-plan-lt-HEADER
+returns-then-plan-lt-HEADER c = tells_false (λ P. omega arith)
 
 pub returns-then-number-ne-VERSION : goal.returns-then-number-ne-VERSION
 returns-then-number-ne-VERSION c = tells_false (λ P. omega arith)

@@ -1,15 +1,9 @@
 use native.Mathlib.Omega.{arith}
 use Rattle.recognised.proofs.Cells.{tells_true, tells_false}
-use borrow.Author.Rules.{rules}
 use borrow.Author.Tests.{ltb-true, ltb-false}
 use Rattle.recognised.proofs.frame.member_right.Goals as goal
 
 -- `recognised::member_right` meets its contract.
-
--- Assumes nothing.
-
-in-member-requires : tie.Need-in-member-requires
-in-member-requires c κs = search rules
 
 pub returns-then-in_member-gt-MEMBERS : goal.returns-then-in_member-gt-MEMBERS
 returns-then-in_member-gt-MEMBERS c = tells_false (λ P. omega arith)

@@ -1,16 +1,10 @@
 use borrow.Author.Count.{below_more}
-use Prim.Native.Nat.{ℕ, ◌≤◌, ◌<◌, ◌-◌}
+use Prim.Native.Nat.{◌-◌}
 use native.Mathlib.Omega.{arith}
-use Rattle.recognised.specs.Facts.{MemberRight}
 use Rattle.recognised.proofs.Cells.{tells_true, tells_false, not_taken, not_left}
 use Rattle.recognised.proofs.frame.members_right.Goals as goal
 
 -- `recognised::members_right` meets its contract.
-
--- Assumes nothing.
-
-abbrev invariant-loop : tie.invariant-loop
-invariant-loop plan n i₀ i = (i ≤ n) × ((x : ℕ) → x < i → MemberRight plan x)
 
 pub loop-i-init : goal.loop-i-init
 loop-i-init c = (omega arith, λ x l. absurd (omega arith))

@@ -1,15 +1,9 @@
 use native.Mathlib.Omega.{arith}
 use Rattle.recognised.proofs.Cells.{tells_false}
-use borrow.Author.Rules.{rules}
 use borrow.Author.Tests.{eqb-true, eqb-false}
 use Rattle.recognised.proofs.frame.places.Goals as goal
 
 -- `recognised::places` meets its contract.
-
--- Assumes nothing.
-
-mul-edges : tie.Need-overflow-mul-edges
-mul-edges c = search rules
 
 pub returns-then-number-ne-HEADER : goal.returns-then-number-ne-HEADER
 returns-then-number-ne-HEADER c = tells_false (λ P. omega arith)

@@ -1,23 +1,13 @@
 use Rattle.recognised.proofs.Matrix.{direct-none, direct-more}
-use Rattle.recognised.specs.Cells.{Covers}
-use Rattle.rows.specs.Plans.{plan_in}
-use Rattle.delays.specs.Graph.{direct}
-use lib.ListN.{length}
 use mathlib.Core.Path.{◌≡◌}
-use Prim.Native.Nat.{◌≤◌, ◌-◌}
+use Prim.Native.Nat.{◌-◌}
 use native.Mathlib.Omega.{arith}
 use Rattle.recognised.proofs.lists.direct_delays.Goals as goal
 
 -- `recognised::direct_delays` meets its contract.
 
--- Assumes nothing.
-
-abbrev invariant-loop : tie.invariant-loop
-invariant-loop plan kind₀ value₀ e k₀ kind value k =
-    (length kind ≡ 1024) × (length value ≡ 1024) × (k ≤ e) × Covers kind value 32 (direct (plan_in plan).sources (plan_in plan).targets (plan_in plan).delays k)
-
 pub loop-k-init : goal.loop-k-init
-loop-k-init c = let s = c in (omega arith, omega arith, omega arith, direct-none _ _ _ _ _ s.requires.4)
+loop-k-init c = (omega arith, omega arith, omega arith, direct-none _ _ _ _ _ c.requires.4)
 
 pub direct_edge-requires : goal.direct_edge-requires
 direct_edge-requires c = (omega arith, omega arith, c.requires.2, omega arith)
@@ -29,13 +19,12 @@ pub loop-k-smaller : goal.loop-k-smaller
 loop-k-smaller c = omega arith
 
 pub loop-k-preserved : goal.loop-k-preserved
-loop-k-preserved c = let s = c in
-    let l = c.loop-k in
+loop-k-preserved c = let l = c.loop-k in
     let r = c.direct_edge in (
       omega (arith, r.auto.1.0),
       omega (arith, r.auto.1.1.0),
       omega arith,
-      direct-more s.args.plan.now s.requires.2 l.kind l.value _ _ l.k (omega arith) l.invariant.3 r.ensures,
+      direct-more c.args.plan.now c.requires.2 l.kind l.value _ _ l.k (omega arith) l.invariant.3 r.ensures,
     )
 
 pub shape_of-kind : goal.shape_of-kind

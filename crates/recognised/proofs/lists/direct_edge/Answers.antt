@@ -2,30 +2,21 @@ use Rattle.delays.proofs.Cells.{cell_at}
 use Rattle.delays.specs.Cells.{cell}
 use mathlib.Core.Path.{◌≡◌, refl}
 use native.Mathlib.Omega.{arith}
-use borrow.Author.Rules.{rules}
 use Rattle.recognised.proofs.lists.direct_edge.Goals as goal
 
 -- `recognised::direct_edge` meets its contract.
 
--- Assumes nothing.
-
-edge-source-requires : tie.Need-edge-source-requires
-edge-source-requires c κs = search rules
-
 pub overflow_mul-s : goal.overflow_mul-s
-overflow_mul-s c = let s = c in
-    let R = s.requires.2.edge s.args.k s.requires.3 in
-    omega (arith, R.from, R.to, s.requires.2.header.few)
+overflow_mul-s c = let R = c.requires.2.edge c.args.k c.requires.3 in
+    omega (arith, R.from, R.to, c.requires.2.header.few)
 
 pub overflow_add-s : goal.overflow_add-s
-overflow_add-s c = let s = c in
-    let R = s.requires.2.edge s.args.k s.requires.3 in
-    omega (arith, R.from, R.to, s.requires.2.header.few)
+overflow_add-s c = let R = c.requires.2.edge c.args.k c.requires.3 in
+    omega (arith, R.from, R.to, c.requires.2.header.few)
 
 pub lower-requires : goal.lower-requires
-lower-requires c = let s = c in
-    let R = s.requires.2.edge s.args.k s.requires.3 in
-    omega (arith, R.from, R.to, s.requires.2.header.few)
+lower-requires c = let R = c.requires.2.edge c.args.k c.requires.3 in
+    omega (arith, R.from, R.to, c.requires.2.header.few)
 
 pub returns : goal.returns
 returns c = let e : cell 0 c.edge_delay-d.result ≡ c.edge_delay-d.result = cell_at 0 c.edge_delay-d.result refl (omega arith) in

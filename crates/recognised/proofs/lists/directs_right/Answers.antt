@@ -7,13 +7,8 @@ use Rattle.recognised.proofs.lists.directs_right.Goals as goal
 
 -- `recognised::directs_right` meets its contract.
 
--- Assumes nothing.
-
-slice-aggregate-direct-delays : tie.Need-slice-aggregate-direct-delays
-slice-aggregate-direct-delays c = search rules
-
 pub direct_delays-requires : goal.direct_delays-requires
-direct_delays-requires c = let s = c in (search rules, search rules, s.requires.0, s.requires.2, blank-fresh _)
+direct_delays-requires c = (search rules, search rules, c.requires.0, c.requires.2, blank-fresh _)
 
 pub number-place-requires : goal.number-place-requires
 number-place-requires c = let H = c.requires.0.header in omega (arith, H.long)
@@ -22,10 +17,9 @@ pub number-rows-requires : goal.number-rows-requires
 number-rows-requires c = let H = c.requires.0.header in omega (arith, H.long)
 
 pub source_table-requires : goal.source_table-requires
-source_table-requires c = let s = c in let H = s.requires.0.header in (search rules, search rules, H, s.requires.1, search rules, omega (arith, H.few-directs), omega (arith, H.direct-place, H.whole))
+source_table-requires c = let H = c.requires.0.header in (search rules, search rules, H, c.requires.1, search rules, omega (arith, H.few-directs), omega (arith, H.direct-place, H.whole))
 
 pub returns : goal.returns
-returns c = let s = c in
-    let H = s.requires.0.header in
-    directs-told s.args.plan.now s.args.n s.args.e s.requires.1 s.requires.2 (omega (arith, H.few, s.requires.1)) _ _ c.direct_delays.ensures _ _ _
+returns c = let H = c.requires.0.header in
+    directs-told c.args.plan.now c.args.n c.args.e c.requires.1 c.requires.2 (omega (arith, H.few, c.requires.1)) _ _ c.direct_delays.ensures _ _ _
     (c.number-place.ensures ∙ H.direct-place) c.number-rows.ensures c.source_table.ensures

@@ -7,9 +7,8 @@ use Rattle.recognised.proofs.lists.leads.Goals as goal
 -- `recognised::leads` meets its contract.
 
 -- Assumes nothing.
-
-returns : tie.Need-returns
-returns c = rw (eq-eqb c.before.before.before.args.t c.before.before.before.args.s (omega arith)) refl
+pub returns-then-t-s : goal.returns-then-t-s
+returns-then-t-s c = rw (eq-eqb c.args.t c.args.s (omega arith)) refl
 
 pub returns : goal.returns
 unfolding grid

@@ -7,9 +7,8 @@ use Rattle.recognised.proofs.lists.source_member.Goals as goal
 -- `recognised::source_member` meets its contract.
 
 -- Assumes nothing.
-
-in-member-requires : tie.Need-in-member-requires
-in-member-requires c κs = omega arith
+pub in_member-requires : goal.in_member-requires
+in_member-requires c = omega arith
 
 pub returns-then-in_member-k : goal.returns-then-in_member-k
 returns-then-in_member-k c = tells_false (λ P. let e = P.0.starts in omega arith)

@@ -1,23 +1,15 @@
 use Rattle.recognised.proofs.Walks.{sources-none, sources-held, sources-skip, sources-row, whole_same}
 use Rattle.recognised.proofs.Walks.{sources-none, sources-held, sources-skip, sources-row}
 use Rattle.recognised.proofs.Cells.{tells_false, not_taken, not_left}
-use Rattle.recognised.specs.Walks.{source_of, near, Whole}
 use Rattle.image.specs.Image.{source_row}
-use Rattle.delays.specs.Cells.{grid}
 use borrow.Author.Tests.{eqb-true, eqb-false}
 use mathlib.Core.Logic.{⊎_elim}
 use mathlib.Core.Path.{◌≡◌}
-use Prim.Native.Nat.{ℕ, ◌≤◌, ◌+◌, ◌*◌, ◌-◌}
+use Prim.Native.Nat.{◌+◌, ◌-◌}
 use native.Mathlib.Omega.{arith}
 use Rattle.recognised.proofs.lists.source_rows.Goals as goal
 
 -- `recognised::source_rows` meets its contract.
-
--- Assumes nothing.
-
-abbrev invariant-loop : tie.invariant-loop
-invariant-loop plan place k c kind value t n q₀ s₀ q s =
-    (q ≤ c) × (s ≤ n) × Whole plan (place + 16 * k) (λ (x : ℕ). source_row (source_of (λ (y : ℕ). grid kind value y t) x)) (near (λ (y : ℕ). grid kind value y t)) s q
 
 pub loop-s-init : goal.loop-s-init
 loop-s-init c = (omega arith, omega arith, sources-none c.args.plan.now c.args.kind.now c.args.value.now c.args.place c.args.k c.args.t (λ i. (c.type_inv.value i).fits) (omega arith))

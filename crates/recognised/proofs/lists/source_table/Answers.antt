@@ -1,21 +1,15 @@
-use Rattle.recognised.proofs.Walks.{Parts, parts_none, parts_more, parts-no, parts-yes, parts-end}
+use Rattle.recognised.proofs.Walks.{parts_none, parts_more, parts-no, parts-yes, parts-end}
 use Rattle.image.specs.Image.{source_row}
 use Rattle.rows.specs.Rows.{field}
 use Rattle.delays.specs.Cells.{grid}
 use Rattle.delays.specs.Lists.{sourced}
 use borrow.Author.Tests.{eqb-true, eqb-false}
-use Prim.Native.Nat.{ℕ, ◌≤◌, ◌+◌, ◌-◌}
+use Prim.Native.Nat.{ℕ, ◌+◌, ◌-◌}
 use Rattle.recognised.proofs.Cells.{tells_false, not_taken, not_left}
 use native.Mathlib.Omega.{arith}
 use Rattle.recognised.proofs.lists.source_table.Goals as goal
 
 -- `recognised::source_table` meets its contract.
-
--- Assumes nothing.
-
-abbrev invariant-loop : tie.invariant-loop
-invariant-loop plan place rows offset kind value n k₀ t₀ k t =
-    (t ≤ n) × (k ≤ rows) × Parts plan source_row place 16 rows (λ (t : ℕ). field 4 48 40 offset t plan) (λ (t : ℕ). field 4 48 40 (offset + 4) t plan) (λ (t : ℕ). sourced (λ (s : ℕ). grid kind value s t) n) n t k
 
 pub loop-t-init : goal.loop-t-init
 loop-t-init c = (omega arith, omega arith, parts_none c.args.plan.now source_row c.args.place 16 c.args.rows (λ (t : ℕ). field 4 48 40 c.args.offset t c.args.plan.now) (λ (t : ℕ). field 4 48 40 (c.args.offset + 4) t c.args.plan.now) (λ (t : ℕ). sourced (λ (s : ℕ). grid c.args.kind.now c.args.value.now s t) c.args.n) c.args.n)

@@ -2,20 +2,13 @@ use Rattle.recognised.proofs.Matrix.{target-yes, target-no}
 use Rattle.recognised.proofs.Sits.{bytes_of}
 use borrow.Author.Tests.{eqb-true, eqb-false}
 use native.Mathlib.Omega.{arith}
-use borrow.Author.Rules.{rules}
 use Rattle.recognised.proofs.lists.target_row.Goals as goal
 
 -- `recognised::target_row` meets its contract.
 
--- Assumes nothing.
-
-in-target-requires : tie.Need-in-target-requires
-in-target-requires c κs = search rules
-
 pub returns : goal.returns
-returns c = let s = c in
-    let B = bytes_of s.args.plan.now (λ i. (c.type_inv.plan i).fits) in
+returns c = let B = bytes_of c.args.plan.now (λ i. (c.type_inv.plan i).fits) in
     record {
-      right = λ e. target-yes s.args.plan.now B s.args.place s.args.k s.args.t s.requires.0 (omega (arith, eqb-true));
-      wrong = λ e S. let r = target-no s.args.plan.now B s.args.place s.args.k s.args.t s.requires.0 s.requires.1 S in omega (arith, eqb-false);
+      right = λ e. target-yes c.args.plan.now B c.args.place c.args.k c.args.t c.requires.0 (omega (arith, eqb-true));
+      wrong = λ e S. let r = target-no c.args.plan.now B c.args.place c.args.k c.args.t c.requires.0 c.requires.1 S in omega (arith, eqb-false);
     }

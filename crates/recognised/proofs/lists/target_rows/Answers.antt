@@ -1,23 +1,17 @@
 use Rattle.recognised.proofs.Walks.{targets-none, targets-held, targets-skip, targets-row, whole_same}
 use Rattle.recognised.proofs.Walks.{targets-none, targets-held, targets-skip, targets-row}
 use Rattle.recognised.proofs.Cells.{tells_false, not_taken, not_left}
-use Rattle.recognised.specs.Walks.{onward, Whole}
+use Rattle.recognised.specs.Walks.{onward}
 use Rattle.image.specs.Image.{target_row}
 use Rattle.delays.specs.Cells.{grid}
 use borrow.Author.Tests.{eqb-true, eqb-false}
 use mathlib.Core.Logic.{⊎_elim}
 use mathlib.Core.Path.{◌≡◌, sym, ◌∙◌}
-use Prim.Native.Nat.{◌≤◌, ◌+◌, ◌*◌, ◌-◌}
+use Prim.Native.Nat.{◌+◌, ◌-◌}
 use native.Mathlib.Omega.{arith}
 use Rattle.recognised.proofs.lists.target_rows.Goals as goal
 
 -- `recognised::target_rows` meets its contract.
-
--- Assumes nothing.
-
-abbrev invariant-loop : tie.invariant-loop
-invariant-loop plan place k c kind value s n q₀ t₀ q t =
-    (q ≤ c) × (t ≤ n) × Whole plan (place + 4 * k) target_row (onward (grid kind value) s) t q
 
 pub loop-t-init : goal.loop-t-init
 loop-t-init c = (omega arith, omega arith, targets-none c.args.plan.now c.args.place c.args.k (onward (grid c.args.kind.now c.args.value.now) c.args.s) (omega arith))

@@ -1,22 +1,16 @@
-use Rattle.recognised.proofs.Walks.{Parts, parts_none, parts_more, parts-no, parts-yes, parts-end}
+use Rattle.recognised.proofs.Walks.{parts_none, parts_more, parts-no, parts-yes, parts-end}
 use Rattle.recognised.specs.Walks.{onward}
 use Rattle.image.specs.Image.{target_row}
 use Rattle.rows.specs.Rows.{downstream_first, downstream_count}
 use Rattle.delays.specs.Cells.{grid}
 use Rattle.delays.specs.Lists.{passing}
 use borrow.Author.Tests.{eqb-true, eqb-false}
-use Prim.Native.Nat.{ℕ, ◌≤◌, ◌-◌}
+use Prim.Native.Nat.{ℕ, ◌-◌}
 use Rattle.recognised.proofs.Cells.{tells_false, not_taken, not_left}
 use native.Mathlib.Omega.{arith}
 use Rattle.recognised.proofs.lists.target_table.Goals as goal
 
 -- `recognised::target_table` meets its contract.
-
--- Assumes nothing.
-
-abbrev invariant-loop : tie.invariant-loop
-invariant-loop plan place rows kind value n k₀ s₀ k s =
-    (s ≤ n) × (k ≤ rows) × Parts plan target_row place 4 rows (downstream_first plan) (downstream_count plan) (λ (s : ℕ). passing (onward (grid kind value) s) n) n s k
 
 pub loop-s-init : goal.loop-s-init
 loop-s-init c = (omega arith, omega arith, parts_none c.args.plan.now target_row c.args.place 4 c.args.rows (downstream_first c.args.plan.now) (downstream_count c.args.plan.now) (λ (s : ℕ). passing (onward (grid c.args.kind.now c.args.value.now) s) c.args.n) c.args.n)

@@ -6,9 +6,8 @@ use Rattle.recognised.proofs.pairs.ahead.Goals as goal
 -- `recognised::ahead` meets its contract.
 
 -- Assumes nothing.
-
-returns : tie.Need-returns
-returns c = rest-there _ _ _ (omega arith)
+pub returns-then-u-t : goal.returns-then-u-t
+returns-then-u-t c = rest-there _ _ _ (omega arith)
 
 pub returns : goal.returns
 unfolding grid

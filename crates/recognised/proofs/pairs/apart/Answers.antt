@@ -1,17 +1,11 @@
 use Rattle.recognised.proofs.Cells.{tells_true, tells_false, not_taken, not_left}
 use Rattle.delays.specs.Cells.{grid}
-use mathlib.Core.Logic.{◌≢◌}
-use Prim.Native.Nat.{ℕ, ◌≤◌, ◌<◌, ◌-◌}
+use Prim.Native.Nat.{◌-◌}
 use borrow.Author.Count.{below_more}
 use native.Mathlib.Omega.{arith}
 use Rattle.recognised.proofs.pairs.apart.Goals as goal
 
 -- `recognised::apart` meets its contract.
-
--- Assumes nothing.
-
-abbrev invariant-loop : tie.invariant-loop
-invariant-loop ck cv n i₀ i = (i ≤ n) × ((x : ℕ) → x < i → grid ck cv x x ≢ 0)
 
 pub loop-i-init : goal.loop-i-init
 loop-i-init c = (omega arith, λ x l. absurd (omega arith))
@@ -42,8 +36,8 @@ unfolding grid
 returns-then-not-positive c = let l = c.loop-i in
     tells_false (λ all. c.positive.ensures.wrong (not_taken _ c.if-not-positive.true) (all l.i (omega arith)))
 
-pub overflow_add-i : goal.overflow_add-i
-overflow_add-i c = omega arith
+pub overflow_add-i-in-loop-i-2 : goal.overflow_add-i-in-loop-i-2
+overflow_add-i-in-loop-i-2 c = omega arith
 
 pub loop-i-smaller : goal.loop-i-smaller
 loop-i-smaller c = omega arith

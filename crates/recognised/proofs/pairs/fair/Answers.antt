@@ -5,9 +5,8 @@ use Rattle.recognised.proofs.pairs.fair.Goals as goal
 -- `recognised::fair` meets its contract.
 
 -- Assumes nothing.
-
-returns : tie.Need-returns
-returns c = fair-near _ _ _ _ (omega arith) (omega arith) (omega arith) (omega arith)
+pub returns-then-a-eq0 : goal.returns-then-a-eq0
+returns-then-a-eq0 c = fair-near _ _ _ _ (omega arith) (omega arith) (omega arith) (omega arith)
 
 pub returns-then-b-eq0 : goal.returns-then-b-eq0
 returns-then-b-eq0 c = tells_false (fair-differ _ _ _ _ (omega arith) (omega arith) (omega arith))

@@ -1,17 +1,10 @@
-use Prim.Native.Nat.{ℕ, ◌<◌, ◌≤◌, ◌-◌}
-use Rattle.delays.specs.Cells.{grid}
-use Rattle.recognised.specs.Cells.{Fair}
+use Prim.Native.Nat.{◌-◌}
 use Rattle.recognised.proofs.Cells.{tells_true, tells_false, not_taken, not_left}
 use borrow.Author.Count.{below_more}
 use native.Mathlib.Omega.{arith}
 use Rattle.recognised.proofs.pairs.fair_row.Goals as goal
 
 -- `recognised::fair_row` meets its contract.
-
--- Assumes nothing.
-
-abbrev invariant-loop : tie.invariant-loop
-invariant-loop kind value ck cv s n t₀ t = (t ≤ n) × ((x : ℕ) → x < t → Fair (grid kind value s x) (grid ck cv s x))
 
 pub loop-t-init : goal.loop-t-init
 loop-t-init c = (omega arith, λ x l. absurd (omega arith))

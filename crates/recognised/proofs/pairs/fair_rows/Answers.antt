@@ -1,17 +1,10 @@
-use Prim.Native.Nat.{ℕ, ◌<◌, ◌≤◌, ◌-◌}
-use Rattle.delays.specs.Cells.{grid}
-use Rattle.recognised.specs.Cells.{Fair}
+use Prim.Native.Nat.{◌-◌}
 use Rattle.recognised.proofs.Cells.{tells_true, tells_false, not_taken, not_left}
 use borrow.Author.Count.{below_more}
 use native.Mathlib.Omega.{arith}
 use Rattle.recognised.proofs.pairs.fair_rows.Goals as goal
 
 -- `recognised::fair_rows` meets its contract.
-
--- Assumes nothing.
-
-abbrev invariant-loop : tie.invariant-loop
-invariant-loop kind value ck cv n s₀ s = (s ≤ n) × ((x : ℕ) → x < s → (t : ℕ) → t < n → Fair (grid kind value x t) (grid ck cv x t))
 
 pub loop-s-init : goal.loop-s-init
 loop-s-init c = (omega arith, λ x l. absurd (omega arith))

@@ -7,10 +7,8 @@ use Rattle.recognised.proofs.pairs.positive.Goals as goal
 -- `recognised::positive` meets its contract.
 
 -- Assumes nothing.
-
-returns : tie.Need-returns
-returns c =
-    let e = cell_cut c.before.args.kind c.before.args.value (omega arith) in
+pub returns-then-kind-eq0 : goal.returns-then-kind-eq0
+returns-then-kind-eq0 c = let e = cell_cut c.args.kind c.args.value (omega arith) in
     record { right = λ t z. omega (arith, ltb-true); wrong = λ f P. P (omega (arith, ltb-false)) }
 
 pub returns : goal.returns

@@ -1,24 +1,14 @@
 use Rattle.recognised.proofs.Cells.{covers-none, covers-edge}
-use Rattle.recognised.specs.Cells.{Covers}
-use Rattle.recognised.specs.Steps.{step}
-use Rattle.rows.specs.Plans.{plan_in}
 use Rattle.delays.specs.Cells.{grid}
-use lib.ListN.{length}
 use mathlib.Core.Path.{◌≡◌}
-use Prim.Native.Nat.{◌≤◌, ◌-◌}
+use Prim.Native.Nat.{◌-◌}
 use native.Mathlib.Omega.{arith}
 use Rattle.recognised.proofs.pairs.steps.Goals as goal
 
 -- `recognised::steps` meets its contract.
 
--- Assumes nothing.
-
-abbrev invariant-loop : tie.invariant-loop
-invariant-loop plan kind₀ value₀ ck cv n e k₀ kind value k =
-    (length kind ≡ 1024) × (length value ≡ 1024) × (k ≤ e) × Covers kind value n (step (plan_in plan).sources (plan_in plan).targets (plan_in plan).delays (grid ck cv) k)
-
 pub loop-k-init : goal.loop-k-init
-loop-k-init c = let s = c in (omega arith, omega arith, omega arith, covers-none _ _ _ _ _ _ _ (omega (arith, s.requires.4.header.few)) s.requires.7)
+loop-k-init c = (omega arith, omega arith, omega arith, covers-none _ _ _ _ _ _ _ (omega (arith, c.requires.4.header.few)) c.requires.7)
 
 pub edge-requires : goal.edge-requires
 edge-requires c = (omega arith, omega arith, omega arith, omega arith, c.requires.4, omega arith, omega arith)
@@ -30,13 +20,12 @@ pub loop-k-smaller : goal.loop-k-smaller
 loop-k-smaller c = omega arith
 
 pub loop-k-preserved : goal.loop-k-preserved
-loop-k-preserved c = let s = c in
-    let l = c.loop-k in
+loop-k-preserved c = let l = c.loop-k in
     let r = c.edge in (
       omega (arith, r.auto.1.0),
       omega (arith, r.auto.1.1.0),
       omega arith,
-      covers-edge s.args.plan.now s.requires.4.header (grid s.args.ck.now s.args.cv.now) s.args.n (omega (arith, s.requires.4.header.few)) l.kind l.value _ _ l.k (omega arith) l.invariant.3 r.ensures,
+      covers-edge c.args.plan.now c.requires.4.header (grid c.args.ck.now c.args.cv.now) c.args.n (omega (arith, c.requires.4.header.few)) l.kind l.value _ _ l.k (omega arith) l.invariant.3 r.ensures,
     )
 
 pub shape_of-kind : goal.shape_of-kind

@@ -1,18 +1,11 @@
-use Prim.Native.Nat.{ℕ, ◌<◌, ◌≤◌, ◌-◌}
+use Prim.Native.Nat.{◌-◌}
 use mathlib.Core.Path.{sym}
-use Rattle.rows.specs.Rows.{edge_delay}
-use Rattle.recognised.specs.Words.{brief}
 use Rattle.recognised.proofs.Cells.{never}
 use borrow.Author.Count.{below_more}
 use native.Mathlib.Omega.{arith}
 use Rattle.recognised.proofs.plain.brief_edges.Goals as goal
 
 -- `recognised::brief_edges` meets its contract.
-
--- Assumes nothing.
-
-abbrev invariant-loop : tie.invariant-loop
-invariant-loop plan e k₀ k = (k ≤ e) × ((x : ℕ) → x < k → edge_delay plan x < brief)
 
 pub loop-k-init : goal.loop-k-init
 loop-k-init c = (omega arith, λ x l. absurd (omega arith))

@@ -1,18 +1,11 @@
-use Prim.Native.Nat.{ℕ, ◌<◌, ◌≤◌, ◌-◌}
+use Prim.Native.Nat.{◌-◌}
 use mathlib.Core.Path.{sym}
-use Rattle.rows.specs.Rows.{field}
-use Rattle.recognised.specs.Words.{brief}
 use Rattle.recognised.proofs.Cells.{never}
 use borrow.Author.Count.{below_more}
 use native.Mathlib.Omega.{arith}
 use Rattle.recognised.proofs.plain.brief_rows.Goals as goal
 
 -- `recognised::brief_rows` meets its contract.
-
--- Assumes nothing.
-
-abbrev invariant-loop : tie.invariant-loop
-invariant-loop plan place rows k₀ k = (k ≤ rows) × ((x : ℕ) → x < k → field 8 place 16 8 x plan < brief)
 
 pub loop-k-init : goal.loop-k-init
 loop-k-init c = (omega arith, λ x l. absurd (omega arith))

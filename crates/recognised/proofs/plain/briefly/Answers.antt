@@ -1,29 +1,22 @@
 use mathlib.Core.Path.{sym, ◌∙◌}
 use Rattle.recognised.proofs.Cells.{not_left, never}
 use native.Mathlib.Omega.{arith}
-use borrow.Author.Rules.{rules}
 use Rattle.recognised.proofs.plain.briefly.Goals as goal
 
 -- `recognised::briefly` meets its contract.
-
--- Assumes nothing.
-
-brief-edges-requires : tie.Need-brief-edges-requires
-brief-edges-requires c κs = search rules
 
 pub returns-then-not-brief_edges : goal.returns-then-not-brief_edges
 returns-then-not-brief_edges c = λ e. never (sym e)
 
 pub number-place-requires : goal.number-place-requires
-number-place-requires c = let s = c in omega (arith, s.requires.0.long)
+number-place-requires c = omega (arith, c.requires.0.long)
 
 pub number-requires : goal.number-requires
-number-requires c = let s = c in omega (arith, s.requires.0.long)
+number-requires c = omega (arith, c.requires.0.long)
 
 pub brief_rows-requires : goal.brief_rows-requires
-brief_rows-requires c = let s = c in let H = s.requires.0 in omega (arith, H.transitive-place, H.whole)
+brief_rows-requires c = let H = c.requires.0 in omega (arith, H.transitive-place, H.whole)
 
 pub returns : goal.returns
-returns c = let s = c in
-    let e = c.number-place.ensures ∙ s.requires.0.transitive-place in
+returns c = let e = c.number-place.ensures ∙ c.requires.0.transitive-place in
     λ y. record { edge = c.brief_edges.ensures (not_left _ c.if-not-brief_edges.false); row = rw (← e, ← c.number.ensures) (c.brief_rows.ensures y) }

@@ -6,16 +6,9 @@ use Rattle.recognised.proofs.plain.by_words.Goals as goal
 
 -- `recognised::by_words` meets its contract.
 
--- Assumes nothing.
-
-slice-aggregate-passes : tie.Need-slice-aggregate-passes
-slice-aggregate-passes c = search rules
-
 pub passes-requires : goal.passes-requires
-passes-requires c = let s = c in
-    (search rules, search rules, s.requires.2, s.requires.3, s.requires.4, s.requires.6.edge, plains-brief s.args.n s.args.ck.now s.args.cv.now (omega (arith, s.requires.2.header.few)) s.requires.6.plain, fresh-words)
+passes-requires c = (search rules, search rules, c.requires.2, c.requires.3, c.requires.4, c.requires.6.edge, plains-brief c.args.n c.args.ck.now c.args.cv.now (omega (arith, c.requires.2.header.few)) c.requires.6.plain, fresh-words)
 
 pub returns : goal.returns
-returns c = let s = c in
-    answered s.args.plan.now (bytes_of s.args.plan.now (λ i. (c.type_inv.plan i).fits)) s.requires.2 s.args.n s.args.e s.requires.3 s.requires.4 s.args.ck.now s.args.cv.now _ s.requires.6.plain _
-    s.requires.5 c.passes.ensures c.same_rows.ensures
+returns c = answered c.args.plan.now (bytes_of c.args.plan.now (λ i. (c.type_inv.plan i).fits)) c.requires.2 c.args.n c.args.e c.requires.3 c.requires.4 c.args.ck.now c.args.cv.now _ c.requires.6.plain _
+    c.requires.5 c.passes.ensures c.same_rows.ensures

@@ -1,27 +1,17 @@
-use Prim.Native.Nat.{◌≤◌, ◌-◌}
+use Prim.Native.Nat.{◌-◌}
 use mathlib.Core.Path.{◌≡◌}
-use lib.ListN.{length}
-use Rattle.rows.specs.Plans.{plan_in}
-use Rattle.recognised.specs.Steps.{step}
-use Rattle.recognised.specs.Words.{table, Says}
+use Rattle.recognised.specs.Words.{table}
 use Rattle.recognised.proofs.Words.{says_none, says-edge}
 use native.Mathlib.Omega.{arith}
 use Rattle.recognised.proofs.plain.passes.Goals as goal
 
 -- `recognised::passes` meets its contract.
 
--- Assumes nothing.
-
-abbrev invariant-loop : tie.invariant-loop
-invariant-loop plan out₀ words n e k₀ out k =
-    (length out ≡ 1024) × (k ≤ e) × Says out n (step (plan_in plan).sources (plan_in plan).targets (plan_in plan).delays (table words) k)
-
 pub loop-k-init : goal.loop-k-init
-loop-k-init c = let s = c in (omega arith, omega arith, says_none _ _ _ _ _ _ (omega (arith, s.requires.2.header.few)) s.requires.7)
+loop-k-init c = (omega arith, omega arith, says_none _ _ _ _ _ _ (omega (arith, c.requires.2.header.few)) c.requires.7)
 
 pub pass_at-requires : goal.pass_at-requires
-pass_at-requires c = let s = c in
-    (omega arith, omega arith, s.requires.2, omega arith, omega arith, s.requires.5 _ (omega arith), s.requires.6)
+pass_at-requires c = (omega arith, omega arith, c.requires.2, omega arith, omega arith, c.requires.5 _ (omega arith), c.requires.6)
 
 pub overflow_add-k : goal.overflow_add-k
 overflow_add-k c = omega arith
@@ -30,12 +20,11 @@ pub loop-k-smaller : goal.loop-k-smaller
 loop-k-smaller c = omega arith
 
 pub loop-k-preserved : goal.loop-k-preserved
-loop-k-preserved c = let s = c in
-    let l = c.loop-k in
+loop-k-preserved c = let l = c.loop-k in
     let r = c.pass_at in (
       omega (arith, r.auto.1.0),
       omega arith,
-      says-edge s.args.plan.now s.requires.2.header (table s.args.words.now) s.args.n (omega (arith, s.requires.2.header.few)) l.out _ l.k (omega arith) l.invariant.2 r.ensures,
+      says-edge c.args.plan.now c.requires.2.header (table c.args.words.now) c.args.n (omega (arith, c.requires.2.header.few)) l.out _ l.k (omega arith) l.invariant.2 r.ensures,
     )
 
 pub shape_of-out : goal.shape_of-out

@@ -1,20 +1,12 @@
-use Prim.Native.Nat.{ℕ, ◌+◌, ◌*◌, ◌<◌, ◌≤◌, ◌-◌}
+use Prim.Native.Nat.{◌-◌}
 use mathlib.Core.Path.{◌≡◌}
 use mathlib.Core.Logic.{⊎_elim}
-use lib.ListN.{get_or}
 use borrow.Author.Tests.{eqb-true, eqb-false}
 use borrow.Author.Count.{below_more}
 use native.Mathlib.Omega.{arith}
 use Rattle.recognised.proofs.plain.same_row.Goals as goal
 
 -- `recognised::same_row` meets its contract.
-
--- Assumes nothing.
-
-abbrev invariant-loop : tie.invariant-loop
-invariant-loop out words s n wrong₀ t₀ wrong t =
-    (t ≤ n) × (wrong ≡ 0 → (x : ℕ) → x < t → get_or out (s * 32 + x) 0 ≡ get_or words (s * 32 + x) 0)
-    × (0 < wrong → ((x : ℕ) → x < t → get_or out (s * 32 + x) 0 ≡ get_or words (s * 32 + x) 0) → ⊥)
 
 pub loop-t-init : goal.loop-t-init
 loop-t-init c = (omega arith, λ e x l. absurd (omega arith), λ e. absurd (omega arith))

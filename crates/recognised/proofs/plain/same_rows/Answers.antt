@@ -1,17 +1,10 @@
-use Prim.Native.Nat.{ℕ, ◌+◌, ◌*◌, ◌<◌, ◌≤◌, ◌-◌}
-use mathlib.Core.Path.{◌≡◌}
-use lib.ListN.{get_or}
+use Prim.Native.Nat.{◌-◌}
 use Rattle.recognised.proofs.Cells.{tells_true, tells_false, not_taken, not_left}
 use borrow.Author.Count.{below_more}
 use native.Mathlib.Omega.{arith}
 use Rattle.recognised.proofs.plain.same_rows.Goals as goal
 
 -- `recognised::same_rows` meets its contract.
-
--- Assumes nothing.
-
-abbrev invariant-loop : tie.invariant-loop
-invariant-loop out words n s₀ s = (s ≤ n) × ((x : ℕ) → x < s → (t : ℕ) → t < n → get_or out (x * 32 + t) 0 ≡ get_or words (x * 32 + t) 0)
 
 pub loop-s-init : goal.loop-s-init
 loop-s-init c = (omega arith, λ x l. absurd (omega arith))

@@ -5,15 +5,12 @@ use Rattle.routes.proofs.Closed.{closes-none, closes-some}
 use Rattle.routes.proofs.circle.closes.Goals as goal
 
 pub returns-then-walk-eq0 : goal.returns-then-walk-eq0
-returns-then-walk-eq0 c = let s = c in
-    closes-none s.args.plan _ _ (walk-long s.args.walk _ s.well-formed.1.0) (omega arith) c.if-walk-eq0.true
+returns-then-walk-eq0 c = closes-none c.args.plan _ _ (walk-long c.args.walk _ c.well_formed.1.0) (omega arith) c.if-walk-eq0.true
 
 pub closing-requires : goal.closing-requires
-closing-requires c = let s = c in
-    let F = s.requires.0 in
-    (F.routed, F.sources, F.targets, F.delays, omega (arith, walk-long s.args.walk _ s.well-formed.1.0, s.requires.1))
+closing-requires c = let F = c.requires.0 in
+    (F.routed, F.sources, F.targets, F.delays, omega (arith, walk-long c.args.walk _ c.well_formed.1.0, c.requires.1))
 
 pub returns : goal.returns
-returns c = let d = c in
-    let s = d.before.before in
-    c.closing.ensures ∙ closes-some s.args.plan _ _ (walk-long s.args.walk _ s.well-formed.1.0) s.requires.1 d.if1.false
+returns c = let s = c in
+    c.closing.ensures ∙ closes-some s.args.plan _ _ (walk-long s.args.walk _ s.well-formed.1.0) s.requires.1 c.if-walk-eq0.false

@@ -2,8 +2,8 @@ use Prim.Native.Nat.{◌-◌}
 use mathlib.Core.Bool.{true}
 use mathlib.Core.Path.{◌≡◌, refl, sym, ◌∙◌}
 use native.Mathlib.Omega.{arith}
-use borrow.Author.Tests.{not_true, not_false}
-use Rattle.routes.specs.Closed.{every, after, goes_on, closing}
+use borrow.Author.Tests.{not-true, not-false}
+use Rattle.routes.specs.Closed.{every, goes_on, closing}
 use Rattle.routes.proofs.Every.{every_more, every-stop}
 use Rattle.routes.proofs.Closed.{after-below}
 use Rattle.routes.proofs.circle.closing.Goals as goal
@@ -22,21 +22,18 @@ pub bounds-edges-i : goal.bounds-edges-i
 bounds-edges-i c = omega arith
 
 pub offset_bounds-edges-k : goal.offset_bounds-edges-k
-offset_bounds-edges-k c = let l = c in
-    let a = l.before.before.before.before.before.args in
-    omega (arith, after-below a.n l.loop.i (omega arith), c.after-k.ensures)
+offset_bounds-edges-k c = let a = c.args in
+    omega (arith, after-below a.n c.loop-i.i (omega arith), c.after-k.ensures)
 
 pub bounds-edges-k : goal.bounds-edges-k
-bounds-edges-k c = let l = c in
-    let a = l.before.before.before.before.before.args in
-    omega (arith, after-below a.n l.loop.i (omega arith), c.after-k.ensures)
+bounds-edges-k c = let a = c.args in
+    omega (arith, after-below a.n c.loop-i.i (omega arith), c.after-k.ensures)
 
 pub returns-then-not-goes_on : goal.returns-then-not-goes_on
 unfolding closing
-returns-then-not-goes_on c = let k = c in
-    let l = k.before.before in
+returns-then-not-goes_on c = let l = c in
     let a = l.before.before.before.before.before.args in
-    sym (every-stop _ a.n l.loop.i (omega arith) (rw k.after.ensures at (sym c.goes_on.ensures ∙ not_true _ c.if-not-goes_on.true)))
+    sym (every-stop _ a.n l.loop.i (omega arith) (rw c.after-k.ensures at (sym c.goes_on.ensures ∙ not-true _ c.if-not-goes_on.true)))
 
 pub overflow_add-i : goal.overflow_add-i
 overflow_add-i c = omega arith
@@ -45,9 +42,8 @@ pub loop-i-smaller : goal.loop-i-smaller
 loop-i-smaller c = omega arith
 
 pub loop-i-preserved : goal.loop-i-preserved
-loop-i-preserved c = let k = c in
-    let l = k.before.before.loop in
-    (omega arith, every_more _ l.i l.invariant.1 (rw k.after.ensures at (sym c.goes_on.ensures ∙ not_false _ c.if-not-goes_on.false)))
+loop-i-preserved c = let l = c.loop-i in
+    (omega arith, every_more _ l.i l.invariant.1 (rw c.after-k.ensures at (sym c.goes_on.ensures ∙ not-false _ c.if-not-goes_on.false)))
 
 pub returns : goal.returns
 unfolding closing

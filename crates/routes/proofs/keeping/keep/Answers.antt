@@ -18,9 +18,8 @@ pub bounds-delays-i : goal.bounds-delays-i
 bounds-delays-i c = omega arith
 
 pub keep_of-requires : goal.keep_of-requires
-keep_of-requires c = let l = c in
-    let s = l.before.before.before.before.before.before in
-    (s.requires.0, s.requires.1, s.requires.2, omega (arith, s.requires.6 l.loop.i (omega arith), c.wide.ensures))
+keep_of-requires c = let s = c in
+    (s.requires.0, s.requires.1, s.requires.2, omega (arith, s.requires.6 c.loop-i.i (omega arith), c.wide.ensures))
 
 pub bounds-kept-i : goal.bounds-kept-i
 bounds-kept-i c = omega arith
@@ -39,6 +38,5 @@ pub shape_of-kept : goal.shape_of-kept
 shape_of-kept c = c.loop-i.invariant.1
 
 pub returns : goal.returns
-returns c = let l = c in
-    let e : l.loop.i ≡ l.before.before.before.before.before.before.args.m = omega arith in
-    (rw e at l.loop.invariant.2, λ i. (l.before.before.before.before.shared-slice-known2.given i).fits)
+returns c = let e : c.loop-i.i ≡ c.args.m = omega arith in
+    (rw e at c.loop-i.invariant.2, λ i. (c.type_inv.delays i).fits)

@@ -37,6 +37,5 @@ pub shape_of-edges : goal.shape_of-edges
 shape_of-edges c = c.loop-i.invariant.1
 
 pub returns : goal.returns
-returns c = let l = c in
-    let e : l.loop.i ≡ l.before.args.n = omega arith in
-    rw e at l.loop.invariant.2
+returns c = let e : c.loop-i.i ≡ c.args.n = omega arith in
+    rw e at c.loop-i.invariant.2

@@ -21,9 +21,8 @@ pub bounds-delays-i : goal.bounds-delays-i
 bounds-delays-i c = omega arith
 
 pub mark_of-requires : goal.mark_of-requires
-mark_of-requires c = let l = c in
-    let s = l.before.before.before.before.before.before.before in
-    (s.requires.0, s.requires.1, s.requires.2, omega (arith, s.requires.3.from l.loop.i (omega arith), c.wide.ensures), omega (arith, s.requires.3.to l.loop.i (omega arith), c.wide-in-loop-i.ensures))
+mark_of-requires c = let s = c in
+    (s.requires.0, s.requires.1, s.requires.2, omega (arith, s.requires.3.from c.loop-i.i (omega arith), c.wide.ensures), omega (arith, s.requires.3.to c.loop-i.i (omega arith), c.wide-in-loop-i.ensures))
 
 pub bounds-marks-i : goal.bounds-marks-i
 bounds-marks-i c = omega arith
@@ -42,6 +41,5 @@ pub shape_of-marks : goal.shape_of-marks
 shape_of-marks c = c.loop-i.invariant.1
 
 pub returns : goal.returns
-returns c = let l = c in
-    let e : l.loop.i ≡ l.before.before.before.before.before.before.before.args.m = omega arith in
-    (rw e at l.loop.invariant.2, λ i. (l.before.before.before.before.shared-slice-known3.given i).fits)
+returns c = let e : c.loop-i.i ≡ c.args.m = omega arith in
+    (rw e at c.loop-i.invariant.2, λ i. (c.type_inv.delays i).fits)

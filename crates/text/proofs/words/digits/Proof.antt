@@ -1,6 +1,6 @@
 use Prim.Native.Nat.{◌+◌, ◌≤◌, ◌<◌, ◌-◌}
 use mathlib.Core.Bool.{true, false}
-use borrow.Author.Tests.{not_true, not_false}
+use borrow.Author.Tests.{not-true, not-false}
 use mathlib.Core.Path.{◌≡◌, refl, sym, ◌∙◌, ap}
 use lib.ListN.{length, drop, get_or}
 use native.Mathlib.Omega.{arith}
@@ -35,7 +35,7 @@ returns c =
     let w = c.before.before.before.before.before.before.before.before.args.word.now in
     let h : l.i < length w = omega arith in
     let e : (longer_of l.v (get_or w l.i 0)).good ≡ false =
-    sym (ap (λ (n : Number). n.good) c.before.before.before.longer.ensures) ∙ not_true _ c.before.if1.true in
+    sym (ap (λ (n : Number). n.good) c.before.before.before.longer.ensures) ∙ not-true _ c.before.if1.true in
     c.unsaid.ensures ∙ sym (read-stop w l.i l.v h e) ∙ l.invariant.1
 
 add-i : tie.Need-overflow-add-i invariant-loop decreases-loop
@@ -50,7 +50,7 @@ loop-again c =
     let w = c.before.before.before.before.before.before.before.args.word.now in
     let h : l.i < length w = omega arith in
     let e : (longer_of l.v (get_or w l.i 0)).good ≡ true =
-    sym (ap (λ (n : Number). n.good) c.before.before.longer.ensures) ∙ not_false _ c.if1.false in
+    sym (ap (λ (n : Number). n.good) c.before.before.longer.ensures) ∙ not-false _ c.if1.false in
     (omega arith, ap (λ (n : Number). read_from (drop (l.i + 1) w) n.value) c.before.before.longer.ensures ∙ sym (read_step w l.i l.v h e) ∙ l.invariant.1)
 
 said-requires : tie.Need-said-requires invariant-loop decreases-loop

@@ -2,7 +2,7 @@ use Prim.Native.Nat.{ℕ, ◌+◌, ◌≤◌, ◌<◌, ◌-◌}
 use mathlib.Core.Bool.{true, false}
 use mathlib.Core.List.{List}
 use lib.ListN.{length-set, length}
-use borrow.Author.Tests.{not_true, not_false}
+use borrow.Author.Tests.{not-true, not-false}
 use Rattle.text.proofs.Splits.{count-stop, kept-stop, count-more, kept_more, count-end, kept-end}
 use native.Mathlib.Omega.{arith}
 use mathlib.Core.Path.{◌≡◌, refl, ap, ◌∙◌}
@@ -49,7 +49,7 @@ returns c =
     let a = c.before.before.before.before.before.before.before.before.before.args in
     let e = c.before.before.before.before.word-end in
     let n = c.before.before.read_number in
-    let g : n.result.good ≡ false = not_true _ c.if1.true in
+    let g : n.result.good ≡ false = not-true _ c.if1.true in
     let h : l.at < length a.line.now = omega arith in (
       count-stop a.line.now l.at l.count l.out h e.result n.result e.ensures.0 n.ensures g ∙ l.invariant.2,
       kept-stop a.line.now l.at l.count l.out h e.result n.result e.ensures.0 n.ensures g ∙ l.invariant.3,
@@ -70,7 +70,7 @@ loop-again c =
     let a = c.before.before.before.before.before.before.before.before.before.before.before.before.before.args in
     let e = c.before.before.before.before.before.before.before.before.word-end in
     let n = c.before.before.before.before.before.before.read_number in
-    let g : n.result.good ≡ true = not_false _ c.before.before.before.before.if1.false in
+    let g : n.result.good ≡ true = not-false _ c.before.before.before.before.if1.false in
     let h : l.at < length a.line.now = omega arith in
     let k = c.before.before.keep.ensures in (
       omega arith,
