@@ -16,8 +16,8 @@ returns-then-none_yet c = search rules
 
 pub returns-then-before : goal.returns-then-before
 unfolding bad_completion any
-returns-then-before c = simp (c.before-2.ensures, c.or_never.ensures, c.none_yet.ensures, c.is_finite.ensures, simp c.or_never.ensures at (sym c.before-2.ensures ∙ c.if-before.true), sym c.none_yet.ensures ∙ c.if-none_yet.false, sym c.is_finite.ensures ∙ not-false _ c.if-not-is_finite.false, no_more)
+returns-then-before c = simp (c.before-2.ensures, c.or_never.ensures, c.none_yet.ensures, c.is_finite.ensures, simp c.or_never.ensures at (sym c.before-2.ensures ∙ c.if-before.true), sym c.none_yet.ensures ∙ c.if-none_yet.false, sym c.is_finite.ensures ∙ c.if-not-is_finite.false, no_more)
 
 pub returns : goal.returns
 unfolding bad_completion any
-returns c = simp (c.before-3.ensures, c.or_never-2.ensures, c.before-2.ensures, c.or_never.ensures, c.none_yet.ensures, c.is_finite.ensures, simp c.or_never.ensures at (sym c.before-2.ensures ∙ c.if-before.false), sym c.none_yet.ensures ∙ c.if-none_yet.false, sym c.is_finite.ensures ∙ not-false _ c.if-not-is_finite.false, no_more)
+returns c = simp (c.before-3.ensures, c.or_never-2.ensures, c.before-2.ensures, c.or_never.ensures, c.none_yet.ensures, c.is_finite.ensures, simp c.or_never.ensures at (sym c.before-2.ensures ∙ c.if-before.false), sym c.none_yet.ensures ∙ c.if-none_yet.false, sym c.is_finite.ensures ∙ c.if-not-is_finite.false, no_more)

@@ -33,7 +33,7 @@ pub returns-then-not-goes_on : goal.returns-then-not-goes_on
 unfolding closing
 returns-then-not-goes_on c = let l = c in
     let a = l.before.before.before.before.before.args in
-    sym (every-stop _ a.n l.loop.i (omega arith) (rw c.after-k.ensures at (sym c.goes_on.ensures ∙ not-true _ c.if-not-goes_on.true)))
+    sym (every-stop _ a.n l.loop.i (omega arith) (rw c.after-k.ensures at (sym c.goes_on.ensures ∙ c.if-not-goes_on.true)))
 
 pub overflow_add-i : goal.overflow_add-i
 overflow_add-i c = omega arith
@@ -43,7 +43,7 @@ loop-i-smaller c = omega arith
 
 pub loop-i-preserved : goal.loop-i-preserved
 loop-i-preserved c = let l = c.loop-i in
-    (omega arith, every_more _ l.i l.invariant.1 (rw c.after-k.ensures at (sym c.goes_on.ensures ∙ not-false _ c.if-not-goes_on.false)))
+    (omega arith, every_more _ l.i l.invariant.1 (rw c.after-k.ensures at (sym c.goes_on.ensures ∙ c.if-not-goes_on.false)))
 
 pub returns : goal.returns
 unfolding closing
