@@ -3,4 +3,4 @@ use native.Mathlib.Omega.{arith}
 use Rattle.recognised.proofs.plain.put.Goals as goal
 
 pub returns : goal.returns
-returns c = ?
+returns c = put_word c.args.out.now c.args.p c.args.x _ (omega arith) c.less.ensures (omega arith) (omega arith)
