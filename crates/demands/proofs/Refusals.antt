@@ -18,7 +18,7 @@ use Rattle.states.specs.declared.Request.TheVariants.{Hello, Publish, Complete, 
 use Rattle.states.specs.Sessions.{Session, view}
 use Rattle.states.specs.Rules.{is_set}
 use Rattle.states.specs.Steps.{absent, waiting, running, resting, halted, hello_in, work_in, stop_in, every, when, or_else, route_at, phase_of, lifecycle, kind_refusal, payload_refusal, refusal_of, bad_payload, bad_target, answered, step, ended, abandon, finished}
-use Rattle.demands.specs.Refusals.{Ground, ground, First, nothing, here, later, waits, outside, grounds, Refused, Over, Abandoned}
+use Rattle.demands.specs.Refusals.{Ground, because, First, nothing, here, later, waits, outside, grounds, Refused, Over, Abandoned}
 
 -- ---- there is one first
 pub once : {gs : List Ground} (n k : ℕ) → First gs n → First gs k → n ≡ k
@@ -29,13 +29,13 @@ once n k (later f) (later g) = once n k f g
 -- the first, found by going along the list
 unfoldable pub decide : List Ground → ℕ
 decide [] = 0
-decide (ground n b ∷ gs) = pick b n (decide gs)
+decide (because n b ∷ gs) = pick b n (decide gs)
 
 pub found : (gs : List Ground) → First gs (decide gs)
 unfolding decide
 found [] = nothing
-found (ground n true ∷ gs) = here
-found (ground n false ∷ gs) = later (found gs)
+found (because n true ∷ gs) = here
+found (because n false ∷ gs) = later (found gs)
 
 -- ---- refusals said by nesting, as one choice
 else_pick : (b : Bool) (n k : ℕ) → or_else (when b (suc n)) k ≡ pick b (suc n) k
@@ -111,7 +111,7 @@ first_applies p s i q = rw (agrees p s i q) (found (grounds p s i q))
 -- ---- its number is 20 to 32
 unfoldable inside : List Ground → Bool
 inside [] = true
-inside (ground n b ∷ gs) = both (both (leb 20 n) (leb n 32)) (inside gs)
+inside (because n b ∷ gs) = both (both (leb 20 n) (leb n 32)) (inside gs)
 
 numbers : (p : Net) (s : Session) (i : ℕ) (q : Request) → inside (grounds p s i q) ≡ true
 unfolding grounds inside

@@ -19,7 +19,7 @@ use Rattle.members.specs.Formed.{formed}
 use Rattle.passes.specs.Ties.{all_words}
 use Rattle.steps.specs.Steps.{ended_state, code_said}
 use Rattle.rti.specs.Entries.{Outcome}
-use Rattle.demands.specs.Refusals.{Ground, ground, First, grounds}
+use Rattle.demands.specs.Refusals.{Ground, because, First, grounds}
 use Rattle.demands.specs.Answers.{Answer}
 
 -- ---- the seven words of a request: member, kind, number, tag class, offset, microstep, extra
@@ -51,15 +51,15 @@ beyond l = both (eqb (get_or l 3 0) 1) (ltb limit (get_or l 4 0))
 -- 11: bytes aren't the compiled plan of their own members and edges; 12: an edge or minimum delay above L; 13: tag slab under 64
 -- words a member
 unfoldable pub open_grounds : List ℕ → List ℕ → List Ground
-open_grounds b slab = ground 11 (not (is_image b)) ∷ ground 12 (longer (plan_in b)) ∷ ground 13 (ltb (length slab) (64 * members b)) ∷ []
+open_grounds b slab = because 11 (not (is_image b)) ∷ because 12 (longer (plan_in b)) ∷ because 13 (ltb (length slab) (64 * members b)) ∷ []
 
 -- 14: state not well formed; 15: delivery buffer under 7(2n+1) words
 unfoldable pub abort_grounds : List ℕ → State → List ℕ → List ℕ → List Ground
-abort_grounds b s slab words = open_grounds b slab ++ (ground 14 (not (formed (net_in b) s slab)) ∷ ground 15 (ltb (length words) (7 * (2 * members b + 1))) ∷ [])
+abort_grounds b s slab words = open_grounds b slab ++ (because 14 (not (formed (net_in b) s slab)) ∷ because 15 (ltb (length words) (7 * (2 * members b + 1))) ∷ [])
 
 -- 16: request malformed; 17: finite request tag offset above L
 unfoldable pub request_grounds : List ℕ → State → List ℕ → List ℕ → List ℕ → List Ground
-request_grounds b s slab request words = abort_grounds b s slab words ++ (ground 16 (malformed request) ∷ ground 17 (beyond request) ∷ [])
+request_grounds b s slab request words = abort_grounds b s slab words ++ (because 16 (malformed request) ∷ because 17 (beyond request) ∷ [])
 
 -- ---- what a call leaves: the state, the words of the slab, the words of the delivery buffer
 -- refused with n: nothing is sent, and none of these changes a lent word or the state

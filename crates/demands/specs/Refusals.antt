@@ -75,13 +75,13 @@ of_stop b (Abort c) = false
 -- ---- the list
 -- a number of refusal, and whether it applies
 pub data Ground : Type 0 where
-  ground : ℕ → Bool → Ground
+  because : ℕ → Bool → Ground
 
 -- the first number of a list that applies, 0 if none does
 pub data First : List Ground → ℕ → Type 0 where
   nothing : First [] 0
-  here : {n : ℕ} {gs : List Ground} → First (ground n true ∷ gs) n
-  later : {n k : ℕ} {gs : List Ground} → First gs k → First (ground n false ∷ gs) k
+  here : {n : ℕ} {gs : List Ground} → First (because n true ∷ gs) n
+  later : {n k : ℕ} {gs : List Ground} → First gs k → First (because n false ∷ gs) k
 
 -- another hasn't joined
 unfoldable pub waits : Net → Session → Bool
@@ -98,19 +98,19 @@ unfoldable pub grounds : Net → Session → ℕ → Request → List Ground
 grounds p s i q =
     let m = view s i in
     let target : ℕ → Member = λ k. view s (route_at p k).target in
-    ground 20 (is_abort q)
-    ∷ ground 21 (leb p.count i)
-    ∷ ground 22 (of_hello (λ d. either m.joined (not (eqb d s.identity))) q)
-    ∷ ground 23 (both (not (is_hello q)) (outside p s i))
-    ∷ ground 24 (of_publish (bad_publication m) q)
-    ∷ ground 25 (of_complete (bad_completion m) q)
-    ∷ ground 26 (of_payload (λ k t. leb (length p.routes) k) q)
-    ∷ ground 27 (of_payload (λ k t. not (eqb (route_at p k).source i)) q)
-    ∷ ground 28 (of_payload (λ k t. bad_payload m (route_at p k).delay t) q)
-    ∷ ground 29 (of_payload (λ k t. bad_target (target k) t) q)
-    ∷ ground 30 (of_payload (λ k t. full (p.capacity (route_at p k).target) t (target k).transit) q)
-    ∷ ground 31 (of_confirm_idle (λ r. not (confirms m.publication r)) q)
-    ∷ ground 32 (of_stop (not (is_set m.idle)) q) ∷ []
+    because 20 (is_abort q)
+    ∷ because 21 (leb p.count i)
+    ∷ because 22 (of_hello (λ d. either m.joined (not (eqb d s.identity))) q)
+    ∷ because 23 (both (not (is_hello q)) (outside p s i))
+    ∷ because 24 (of_publish (bad_publication m) q)
+    ∷ because 25 (of_complete (bad_completion m) q)
+    ∷ because 26 (of_payload (λ k t. leb (length p.routes) k) q)
+    ∷ because 27 (of_payload (λ k t. not (eqb (route_at p k).source i)) q)
+    ∷ because 28 (of_payload (λ k t. bad_payload m (route_at p k).delay t) q)
+    ∷ because 29 (of_payload (λ k t. bad_target (target k) t) q)
+    ∷ because 30 (of_payload (λ k t. full (p.capacity (route_at p k).target) t (target k).transit) q)
+    ∷ because 31 (of_confirm_idle (λ r. not (confirms m.publication r)) q)
+    ∷ because 32 (of_stop (not (is_set m.idle)) q) ∷ []
 
 -- ---- what a step answers
 -- a refusal ends the session, sets the cause, sends Failed with it to every member, ascending, and leaves every record and tag

@@ -1,117 +1,109 @@
 // Tags at work: the marked subtractions, delays, predecessors and the order, a line each.
 #![tactic(auto)]
 
+use std::io;
 use tags::{Delayed, Tag, Told};
 
 // M, the largest microstep.
 const TOP: u64 = 18446744073709551615;
 
-fn space() {
-    io::write_all(libc::STDOUT_FILENO, b" ");
+fn space(rt: &impl Print) -> io::Result<()> {
+    print!(rt; " ")
 }
 
-fn end() {
-    io::write_all(libc::STDOUT_FILENO, b"\n");
+fn end(rt: &impl Print) -> io::Result<()> {
+    print!(rt; "\n")
 }
 
 // The three words of a tag.
-fn show(t: Tag) {
+fn show(rt: &impl Print, t: Tag) -> io::Result<()> {
     let w = t.words();
-    io::print_decimal(libc::STDOUT_FILENO, w.class);
-    space();
-    io::print_decimal(libc::STDOUT_FILENO, w.offset);
-    space();
-    io::print_decimal(libc::STDOUT_FILENO, w.microstep);
+    print!(rt; "{}", w.class)?;
+    space(rt)?;
+    print!(rt; "{}", w.offset)?;
+    space(rt)?;
+    print!(rt; "{}", w.microstep)
 }
 
-fn less(t: Tag, d: u64) {
-    io::write_all(libc::STDOUT_FILENO, b"less ");
-    show(t);
-    space();
-    io::print_decimal(libc::STDOUT_FILENO, d);
-    io::write_all(libc::STDOUT_FILENO, b" = ");
-    show(t.subtract(d));
-    end();
+fn less(rt: &impl Print, t: Tag, d: u64) -> io::Result<()> {
+    print!(rt; "less ")?;
+    show(rt, t)?;
+    print!(rt; " {d} = ")?;
+    show(rt, t.subtract(d))?;
+    end(rt)
 }
 
-fn later(t: Tag, d: u64) {
-    io::write_all(libc::STDOUT_FILENO, b"delayed ");
-    show(t);
-    space();
-    io::print_decimal(libc::STDOUT_FILENO, d);
-    io::write_all(libc::STDOUT_FILENO, b" = ");
+fn later(rt: &impl Print, t: Tag, d: u64) -> io::Result<()> {
+    print!(rt; "delayed ")?;
+    show(rt, t)?;
+    print!(rt; " {d} = ")?;
     match t.delay(d) {
-        Delayed::To(x) => show(x),
-        Delayed::TooFar => {
-            io::write_all(libc::STDOUT_FILENO, b"too far");
-        }
+        Delayed::To(x) => show(rt, x)?,
+        Delayed::TooFar => print!(rt; "too far")?,
     }
-    end();
+    end(rt)
 }
 
-fn previous(t: Tag) {
-    io::write_all(libc::STDOUT_FILENO, b"predecessor ");
-    show(t);
-    io::write_all(libc::STDOUT_FILENO, b" = ");
-    show(t.predecessor());
-    end();
+fn previous(rt: &impl Print, t: Tag) -> io::Result<()> {
+    print!(rt; "predecessor ")?;
+    show(rt, t)?;
+    print!(rt; " = ")?;
+    show(rt, t.predecessor())?;
+    end(rt)
 }
 
 // Which of the two comes first, and whether they are the same.
-fn order(a: Tag, b: Tag) {
-    io::write_all(libc::STDOUT_FILENO, b"least ");
-    show(a.least(b));
-    io::write_all(libc::STDOUT_FILENO, b" greatest ");
-    show(a.greatest(b));
+fn order(rt: &impl Print, a: Tag, b: Tag) -> io::Result<()> {
+    print!(rt; "least ")?;
+    show(rt, a.least(b))?;
+    print!(rt; " greatest ")?;
+    show(rt, a.greatest(b))?;
     if a.before(b) {
-        io::write_all(libc::STDOUT_FILENO, b" before");
+        print!(rt; " before")?;
     }
     if a.equal(b) {
-        io::write_all(libc::STDOUT_FILENO, b" equal");
+        print!(rt; " equal")?;
     }
-    end();
+    end(rt)
 }
 
-fn told(class: u64, offset: u64, microstep: u64) {
-    io::write_all(libc::STDOUT_FILENO, b"words ");
-    io::print_decimal(libc::STDOUT_FILENO, class);
+fn told(rt: &impl Print, class: u64, offset: u64, microstep: u64) -> io::Result<()> {
+    print!(rt; "words {class}")?;
     match Tag::told(class, offset, microstep) {
         Told::Is(t) => {
-            io::write_all(libc::STDOUT_FILENO, b" say ");
-            show(t);
+            print!(rt; " say ")?;
+            show(rt, t)?;
         }
-        Told::Unknown => {
-            io::write_all(libc::STDOUT_FILENO, b" say none");
-        }
+        Told::Unknown => print!(rt; " say none")?,
     }
-    end();
+    end(rt)
 }
 
-fn main() {
-    less(Tag::Finite(10, 3), 0);
-    less(Tag::Finite(10, 3), 10);
-    less(Tag::Finite(10, 3), 11);
-    less(Tag::NEVER, 5);
-    less(Tag::FOREVER, 5);
-    later(Tag::Finite(10, 3), 0);
-    later(Tag::Finite(10, 3), 5);
-    later(Tag::Finite(1, 0), TOP);
-    later(Tag::Finite(0, 7), TOP);
-    later(Tag::NEVER, 5);
-    later(Tag::FOREVER, 5);
-    previous(Tag::Finite(10, 3));
-    previous(Tag::Finite(10, 0));
-    previous(Tag::ZERO);
-    previous(Tag::NEVER);
-    previous(Tag::FOREVER);
-    order(Tag::Finite(1, 9), Tag::Finite(2, 0));
-    order(Tag::Finite(2, 1), Tag::Finite(2, 0));
-    order(Tag::ZERO, Tag::NEVER);
-    order(Tag::FOREVER, Tag::FOREVER);
-    told(0, 0, 0);
-    told(1, 4, 5);
-    told(2, 0, 0);
-    told(3, 0, 0);
-    told(0, 1, 0);
-    told(2, 0, 1);
+fn main(rt: HostRuntime) -> io::Result<()> {
+    less(&rt, Tag::Finite(10, 3), 0)?;
+    less(&rt, Tag::Finite(10, 3), 10)?;
+    less(&rt, Tag::Finite(10, 3), 11)?;
+    less(&rt, Tag::NEVER, 5)?;
+    less(&rt, Tag::FOREVER, 5)?;
+    later(&rt, Tag::Finite(10, 3), 0)?;
+    later(&rt, Tag::Finite(10, 3), 5)?;
+    later(&rt, Tag::Finite(1, 0), TOP)?;
+    later(&rt, Tag::Finite(0, 7), TOP)?;
+    later(&rt, Tag::NEVER, 5)?;
+    later(&rt, Tag::FOREVER, 5)?;
+    previous(&rt, Tag::Finite(10, 3))?;
+    previous(&rt, Tag::Finite(10, 0))?;
+    previous(&rt, Tag::ZERO)?;
+    previous(&rt, Tag::NEVER)?;
+    previous(&rt, Tag::FOREVER)?;
+    order(&rt, Tag::Finite(1, 9), Tag::Finite(2, 0))?;
+    order(&rt, Tag::Finite(2, 1), Tag::Finite(2, 0))?;
+    order(&rt, Tag::ZERO, Tag::NEVER)?;
+    order(&rt, Tag::FOREVER, Tag::FOREVER)?;
+    told(&rt, 0, 0, 0)?;
+    told(&rt, 1, 4, 5)?;
+    told(&rt, 2, 0, 0)?;
+    told(&rt, 3, 0, 0)?;
+    told(&rt, 0, 1, 0)?;
+    told(&rt, 2, 0, 1)
 }
