@@ -19,8 +19,8 @@ loop-k-smaller c = omega arith
 pub loop-k-preserved : goal.loop-k-preserved
 loop-k-preserved c = let l = c.loop-k in
     let r = c.round in (
-      omega (arith, r.auto.0),
-      omega (arith, r.auto.1.0),
+      omega (arith, r.auto.kind),
+      omega (arith, r.auto.value),
       omega arith,
       holds_more c.args.kind.now c.args.value.now l.kind l.value _ _ c.args.n l.k (omega arith) l.invariant.3 r.ensures,
     )

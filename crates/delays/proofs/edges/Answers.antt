@@ -19,8 +19,8 @@ loop-i-smaller c = omega arith
 pub loop-i-preserved : goal.loop-i-preserved
 loop-i-preserved c = let l = c.loop-i in
     let r = c.edge in (
-      omega (arith, r.auto.1.1.1.1.0),
-      omega (arith, r.auto.1.1.1.1.1.0),
+      omega (arith, r.auto.kind),
+      omega (arith, r.auto.value),
       omega arith,
       edges_more c.args.sources.now c.args.targets.now c.args.delays.now l.kind l.value _ _ l.i (c.requires.2.to l.i (omega arith)) l.invariant.3 r.ensures,
     )

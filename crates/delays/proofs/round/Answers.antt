@@ -19,8 +19,8 @@ loop-s-smaller c = omega arith
 pub loop-s-preserved : goal.loop-s-preserved
 loop-s-preserved c = let l = c.loop-s in
     let r = c.row in (
-      omega (arith, r.auto.0),
-      omega (arith, r.auto.1.0),
+      omega (arith, r.auto.kind),
+      omega (arith, r.auto.value),
       omega arith,
       turn c.args.kind.now c.args.value.now c.args.k l.kind l.value c.args.n l.s l.invariant.3 (omega arith) (omega arith) _ _ r.ensures,
     )

@@ -37,8 +37,8 @@ loop-t-smaller c = omega arith
 pub loop-t-preserved : goal.loop-t-preserved
 loop-t-preserved c = let l = c.loop-t in
     let r = c.relax in (
-      omega (arith, r.auto.0),
-      omega (arith, r.auto.1.0),
+      omega (arith, r.auto.kind),
+      omega (arith, r.auto.value),
       omega arith,
       row_more c.args.kind.now c.args.value.now c.args.k l.kind l.value c.args.s l.t l.invariant.3 (omega arith) _ _ r.ensures,
     )

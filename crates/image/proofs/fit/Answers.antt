@@ -28,7 +28,7 @@ returns-then-out-total c = let rows : Counted c.args.p c.args.dk.now c.args.dv.n
       transitives = c.sources_total-t.ensures;
       downstreams = c.targets_total-w.ensures;
     } in
-    short c.args.p c.args.out.now c.refused.result (omega (arith, c.if-out-total.true, c.before.before.before.end_of_lem.ensures, total-is rows)) (cc)
+    short c.args.p c.args.out.now c.refused.result (omega (arith, c.if-out-total.true, c.end_of-total.ensures, total-is rows)) (cc)
 
 pub put_image-requires : goal.put_image-requires
 put_image-requires c = let rows : Counted c.args.p c.args.dk.now c.args.dv.now c.args.mk.now c.args.mv.now c.sources_total-d.result c.sources_total-t.result c.targets_total-w.result =
@@ -48,7 +48,7 @@ put_image-requires c = let rows : Counted c.args.p c.args.dk.now c.args.dv.now c
       (few-rows rows).0,
       (few-rows rows).1,
       (few-rows rows).2,
-      image-room rows c.args.out.now (omega (arith, c.if-out-total.false, c.before.before.end_of_lem.ensures)),
+      image-room rows c.args.out.now (omega (arith, c.if-out-total.false, c.end_of-total.ensures)),
     )
 
 pub returns : goal.returns
@@ -61,5 +61,5 @@ returns c = let rows : Counted c.args.p c.args.dk.now c.args.dv.now c.args.mk.no
       transitives = c.sources_total-t.ensures;
       downstreams = c.targets_total-w.ensures;
     } in
-    let total : c.before.before.before.before.before.before.end_of_lem.result ≡ total_of c.args.p = c.before.before.before.before.before.before.end_of_lem.ensures ∙ total-is rows in
+    let total : c.end_of-total.result ≡ total_of c.args.p = c.end_of-total.ensures ∙ total-is rows in
     long c.args.p c.args.out.now c.written.result (omega (arith, c.if-out-total.false)) (rw (image-is rows) at c.put_image.ensures) (c.written.ensures ∙ ap written total)

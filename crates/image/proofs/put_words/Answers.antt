@@ -1,5 +1,4 @@
-use Prim.Native.Nat.{ℕ, ◌-◌}
-use mathlib.Core.List.{List}
+use Prim.Native.Nat.{◌-◌}
 use native.Mathlib.Omega.{arith}
 use lib.ListN.{get_or}
 use Rattle.basis.specs.Numbers.{bytes}
@@ -7,9 +6,6 @@ use Rattle.basis.proofs.Numbers.{length-bytes}
 use Rattle.image.proofs.Tables.{laid-all}
 use Rattle.image.proofs.Puts.{go-first, go-room, go_on, go-length, go-last, small_at}
 use Rattle.image.proofs.put_words.Goals as goal
-
-abbrev word_at : List ℕ → ℕ → List ℕ
-word_at ws k = bytes 4 (get_or ws k 0)
 
 pub loop-k-init : goal.loop-k-init
 loop-k-init c = go-first _ _ _ _ (rw (laid-all (bytes 4) 0 c.args.ws.now) c.requires.0)

@@ -16,7 +16,7 @@ returns-then-plan-to c = sought_outside c.args.plan _ _ _ _ c.analyse-refusal.en
 
 pub route-walk-requires : goal.route-walk-requires
 route-walk-requires c = let k = c.analyse-refusal in
-    (k.auto.1.1.1.0, k.auto.1.1.1.1.0, c.requires, k.ensures.minimum, sym (ap (λ (y : Refusal). y.number) k.ensures.answer) ∙ c.if-refusal-ne0.false, omega arith, omega arith)
+    (k.auto.kinds, k.auto.values, c.requires, k.ensures.minimum, sym (ap (λ (y : Refusal). y.number) k.ensures.answer) ∙ c.if-refusal-ne0.false, omega arith, omega arith)
 
 pub returns : goal.returns
 returns c = sought_found _ _ _ _ _ c.analyse-refusal.ensures.answer _ c.route-walk.ensures c.if-refusal-ne0.false

@@ -15,7 +15,7 @@ trace-count-requires c = let s = c in
     let w = c.mark.ensures.1 in
     let M = marked-held a.plan F a.kind.now a.value.now a.from _ _ s.requires.3 (omega (arith, s.requires.5, F.few)) c.mark.ensures.0 in
     let E = found a.plan.targets _ a.to _ c.entering.ensures c.if-entering-lt-EDGES.true in
-    (F.sources, F.targets, c.mark.auto.1.1.1.1.1.1.1.0, refl, omega arith, enough a.plan F w a.from _ M s.requires.4 a.to s.requires.6 (rw E.leads at (marked-near a.plan F w a.from _ M _ E.marked)))
+    (F.sources, F.targets, c.mark.auto.marks, refl, omega arith, enough a.plan F w a.from _ M s.requires.4 a.to s.requires.6 (rw E.leads at (marked-near a.plan F w a.from _ M _ E.marked)))
 
 pub returns-then-entering-lt-EDGES : goal.returns-then-entering-lt-EDGES
 returns-then-entering-lt-EDGES c = let s = c in
@@ -24,7 +24,7 @@ returns-then-entering-lt-EDGES c = let s = c in
     let w = c.mark.ensures.1 in
     let M = marked-held a.plan F a.kind.now a.value.now a.from _ _ s.requires.3 (omega (arith, s.requires.5, F.few)) c.mark.ensures.0 in
     let E = found a.plan.targets _ a.to _ c.entering.ensures c.if-entering-lt-EDGES.true in
-    answered a.plan F w a.from _ M s.requires.4 _ _ a.to _ c.trace-count.ensures c.trace-count.auto.1.1.1.0 (zeros 32) (rw E.leads at (marked-near a.plan F w a.from _ M _ E.marked))
+    answered a.plan F w a.from _ M s.requires.4 _ _ a.to _ c.trace-count.ensures c.trace-count.auto.out (zeros 32) (rw E.leads at (marked-near a.plan F w a.from _ M _ E.marked))
 
 pub returns : goal.returns
 returns c = let s = c in

@@ -14,7 +14,7 @@ visit-span-requires c = let s = c in
     let F = s.requires.2 in
     let w = c.keep.ensures.1 in
     let K = keeping-held a.plan F a.kind.now a.value.now a.home _ _ s.requires.3 (omega (arith, s.requires.4, F.few)) c.keep.ensures.0 in
-    (F.sources, F.targets, c.keep.auto.1.1.1.1.1.1.0, refl, refl, onward a.plan F a.home _ K w s.requires.5, omega (arith, s.requires.4, F.few), zeros 32 a.home, leaves a.plan F a.home _ K w s.requires.5 a.home s.requires.5, sets-out _ _ _ _)
+    (F.sources, F.targets, c.keep.auto.kept, refl, refl, onward a.plan F a.home _ K w s.requires.5, omega (arith, s.requires.4, F.few), zeros 32 a.home, leaves a.plan F a.home _ K w s.requires.5 a.home s.requires.5, sets-out _ _ _ _)
 
 pub returns : goal.returns
 returns c = let s = c in

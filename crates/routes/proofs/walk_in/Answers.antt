@@ -15,7 +15,7 @@ walk_from-requires c = let p = c.args.plan in
     let H = c.minimum_delays.ensures in
     let e = c.first_loop-home.ensures ∙ loop-held p c.requires _ _ H in
     let k = c.minimum_delays.auto in
-    (k.1.0, k.1.1.0, c.requires, H, omega arith, loop-zero p _ e (omega arith))
+    (k.kind, k.value, c.requires, H, omega arith, loop-zero p _ e (omega arith))
 
 pub returns : goal.returns
 returns c = let p = c.args.plan in

@@ -8,8 +8,6 @@ use borrow.Author.Count.{below_more}
 use native.Mathlib.Omega.{arith}
 use Rattle.recognised.proofs.claims.claim_rows.Goals as goal
 
--- `recognised::claim_rows` meets its contract.
-
 pub loop-q-init : goal.loop-q-init
 loop-q-init c = (omega arith, omega arith, omega arith, λ x l. absurd (omega arith), filled_none _ _ _ _ c.requires.2 _ _ c.requires.5, λ h P. P)
 
@@ -27,7 +25,7 @@ shape_of-value-then-n-s c = omega arith
 
 pub returns-then-n-s : goal.returns-then-n-s
 returns-then-n-s c = let l = c.loop-q in
-    (tells_false (λ all. absurd (omega (arith, all l.q (omega arith)))), (λ e. never (sym e), λ e. never (sym e)))
+    record { told = tells_false (λ all. absurd (omega (arith, all l.q (omega arith)))); filled = λ e. never (sym e); plain = λ e. never (sym e) }
 
 pub overflow_add-k-in-loop-q : goal.overflow_add-k-in-loop-q
 overflow_add-k-in-loop-q c = omega arith
@@ -75,4 +73,4 @@ shape_of-value c = omega arith
 pub returns : goal.returns
 returns c = let l = c.loop-q in
     let e : c.args.c ≡ l.q = omega arith in
-    (tells_true (λ x h. l.invariant.3 x (omega arith)), (λ y. rw e l.invariant.4, λ y h P. l.invariant.5 (λ x g. h x (omega arith)) P))
+    record { told = tells_true (λ x h. l.invariant.3 x (omega arith)); filled = λ y. rw e l.invariant.4; plain = λ y h P. l.invariant.5 (λ x g. h x (omega arith)) P }

@@ -3,19 +3,16 @@ use Rattle.recognised.proofs.Cells.{tells-same}
 use Rattle.image.specs.Image.{source_row, target_row}
 use Rattle.rows.specs.Rows.{transitives, transitives_at, transitive_first, transitive_count, downstreams, downstreams_at, downstream_first, downstream_count}
 use mathlib.Core.Path.{◌∙◌}
-use Rattle.recognised.proofs.Cells.{tells_false, not_taken, not_left}
+use Rattle.recognised.proofs.Cells.{tells_false}
 use native.Mathlib.Omega.{arith}
 use borrow.Author.Rules.{rules}
 use Rattle.recognised.proofs.claims.minima_right.Goals as goal
 
--- `recognised::minima_right` meets its contract.
-
--- Assumes nothing.
 pub stands-requires : goal.stands-requires
 stands-requires c = (search rules, search rules, c.requires.2, c.requires.3, c.requires.4, c.requires.5)
 
 pub returns-then-not-stands : goal.returns-then-not-stands
-returns-then-not-stands c = tells_false (λ X. c.stands.ensures.wrong (not_taken _ c.if-not-stands.true) X.minimal)
+returns-then-not-stands c = tells_false (λ X. c.stands.ensures.wrong c.if-not-stands.true X.minimal)
 
 pub number-transitives-requires : goal.number-transitives-requires
 number-transitives-requires c = let H = c.requires.2.header in omega (arith, H.long)
@@ -33,7 +30,7 @@ pub returns-then-not-source_table : goal.returns-then-not-source_table
 returns-then-not-source_table c = let H = c.requires.2.header in
     let told = tabled_place c.args.plan.now source_row 16 (transitive_first c.args.plan.now) (transitive_count c.args.plan.now) c.args.n _ _ _ (transitives_at c.args.plan.now) _ (transitives c.args.plan.now)
     (c.number-transitives.ensures ∙ H.transitive-place) c.number.ensures c.source_table.ensures in
-    tells_false (λ X. told.wrong (not_taken _ c.if-not-source_table.true) X.transitive)
+    tells_false (λ X. told.wrong c.if-not-source_table.true X.transitive)
 
 pub number-requires-2 : goal.number-requires-2
 number-requires-2 c = let H = c.requires.2.header in omega (arith, H.long)
@@ -47,4 +44,4 @@ returns c = let H = c.requires.2.header in
     (c.number-transitives.ensures ∙ H.transitive-place) c.number.ensures c.source_table.ensures in
     let second = tabled_place c.args.plan.now target_row 4 (downstream_first c.args.plan.now) (downstream_count c.args.plan.now) c.args.n _ _ _ (downstreams_at c.args.plan.now) _ (downstreams c.args.plan.now)
     (c.number-downstreams.ensures ∙ H.downstream-place) c.number-2.ensures c.target_table.ensures in
-    tells-same (λ d. record { minimal = c.stands.ensures.right (not_left _ c.if-not-stands.false); transitive = first.right (not_left _ c.if-not-source_table.false); downstream = d }) (λ X. X.downstream) second
+    tells-same (λ d. record { minimal = c.stands.ensures.right c.if-not-stands.false; transitive = first.right c.if-not-source_table.false; downstream = d }) (λ X. X.downstream) second

@@ -8,9 +8,6 @@ use Rattle.recognised.proofs.Cells.{tells_true}
 use native.Mathlib.Omega.{arith}
 use Rattle.recognised.proofs.claims.short_at.Goals as goal
 
--- `recognised::short_at` meets its contract.
-
--- Assumes nothing.
 pub returns-then-kind-eq0 : goal.returns-then-kind-eq0
 returns-then-kind-eq0 c = let e = cell_cut c.args.kind c.args.value (omega arith) in
     record { right = λ t l. omega (arith, leb-true); wrong = λ f P. let q : cell c.args.kind c.args.value ≤ limit = P (omega arith) in omega (arith, leb-false) }

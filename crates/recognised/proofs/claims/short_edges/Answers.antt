@@ -4,8 +4,6 @@ use Rattle.recognised.proofs.Cells.{tells_true, tells_false}
 use native.Mathlib.Omega.{arith}
 use Rattle.recognised.proofs.claims.short_edges.Goals as goal
 
--- `recognised::short_edges` meets its contract.
-
 pub loop-k-init : goal.loop-k-init
 loop-k-init c = (omega arith, λ x l. absurd (omega arith))
 

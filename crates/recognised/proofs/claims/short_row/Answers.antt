@@ -1,11 +1,9 @@
 use Rattle.delays.specs.Cells.{grid}
 use Prim.Native.Nat.{◌-◌}
 use borrow.Author.Count.{below_more}
-use Rattle.recognised.proofs.Cells.{tells_true, tells_false, not_taken, not_left}
+use Rattle.recognised.proofs.Cells.{tells_true, tells_false}
 use native.Mathlib.Omega.{arith}
 use Rattle.recognised.proofs.claims.short_row.Goals as goal
-
--- `recognised::short_row` meets its contract.
 
 pub loop-t-init : goal.loop-t-init
 loop-t-init c = (omega arith, λ x l. absurd (omega arith))
@@ -27,7 +25,7 @@ bounds-value-p c = omega arith
 
 pub returns-then-not-short_at : goal.returns-then-not-short_at
 unfolding grid
-returns-then-not-short_at c = let l = c.loop-t in tells_false (λ all. c.short_at.ensures.wrong (not_taken _ c.if-not-short_at.true) (all l.t (omega arith)))
+returns-then-not-short_at c = let l = c.loop-t in tells_false (λ all. c.short_at.ensures.wrong c.if-not-short_at.true (all l.t (omega arith)))
 
 pub overflow_add-t : goal.overflow_add-t
 overflow_add-t c = omega arith
@@ -37,7 +35,7 @@ loop-t-smaller c = omega arith
 
 pub loop-t-preserved : goal.loop-t-preserved
 unfolding grid
-loop-t-preserved c = let l = c.loop-t in (omega arith, below_more _ _ l.invariant.1 (c.short_at.ensures.right (not_left _ c.if-not-short_at.false)))
+loop-t-preserved c = let l = c.loop-t in (omega arith, below_more _ _ l.invariant.1 (c.short_at.ensures.right c.if-not-short_at.false))
 
 pub returns : goal.returns
 returns c = let l = c.loop-t in tells_true (λ x h. l.invariant.1 x (omega arith))

@@ -3,8 +3,6 @@ use borrow.Author.Tests.{ltb-true, ltb-false}
 use Rattle.recognised.proofs.Cells.{tells_true, tells_false}
 use Rattle.recognised.proofs.frame.edge_right.Goals as goal
 
--- `recognised::edge_right` meets its contract.
-
 pub returns-then-n-edge_source : goal.returns-then-n-edge_source
 returns-then-n-edge_source c = tells_false (λ P. omega arith)
 

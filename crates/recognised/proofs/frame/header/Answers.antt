@@ -2,9 +2,6 @@ use native.Mathlib.Omega.{arith}
 use Rattle.recognised.proofs.Cells.{tells_false, tells-same}
 use Rattle.recognised.proofs.frame.header.Goals as goal
 
--- `recognised::header` meets its contract.
-
--- Assumes nothing.
 pub returns-then-plan-lt-HEADER : goal.returns-then-plan-lt-HEADER
 returns-then-plan-lt-HEADER c = tells_false (λ P. omega arith)
 

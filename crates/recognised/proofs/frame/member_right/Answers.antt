@@ -3,8 +3,6 @@ use Rattle.recognised.proofs.Cells.{tells_true, tells_false}
 use borrow.Author.Tests.{ltb-true, ltb-false}
 use Rattle.recognised.proofs.frame.member_right.Goals as goal
 
--- `recognised::member_right` meets its contract.
-
 pub returns-then-in_member-gt-MEMBERS : goal.returns-then-in_member-gt-MEMBERS
 returns-then-in_member-gt-MEMBERS c = tells_false (λ P. omega arith)
 

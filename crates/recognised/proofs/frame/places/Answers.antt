@@ -3,8 +3,6 @@ use Rattle.recognised.proofs.Cells.{tells_false}
 use borrow.Author.Tests.{eqb-true, eqb-false}
 use Rattle.recognised.proofs.frame.places.Goals as goal
 
--- `recognised::places` meets its contract.
-
 pub returns-then-number-ne-HEADER : goal.returns-then-number-ne-HEADER
 returns-then-number-ne-HEADER c = tells_false (λ P. omega arith)
 

@@ -4,8 +4,6 @@ use Prim.Native.Nat.{◌-◌}
 use native.Mathlib.Omega.{arith}
 use Rattle.recognised.proofs.lists.direct_delays.Goals as goal
 
--- `recognised::direct_delays` meets its contract.
-
 pub loop-k-init : goal.loop-k-init
 loop-k-init c = (omega arith, omega arith, omega arith, direct-none _ _ _ _ _ c.requires.4)
 
@@ -21,8 +19,8 @@ loop-k-smaller c = omega arith
 pub loop-k-preserved : goal.loop-k-preserved
 loop-k-preserved c = let l = c.loop-k in
     let r = c.direct_edge in (
-      omega (arith, r.auto.1.0),
-      omega (arith, r.auto.1.1.0),
+      omega arith,
+      omega arith,
       omega arith,
       direct-more c.args.plan.now c.requires.2 l.kind l.value _ _ l.k (omega arith) l.invariant.3 r.ensures,
     )

@@ -4,8 +4,6 @@ use mathlib.Core.Path.{◌≡◌, refl}
 use native.Mathlib.Omega.{arith}
 use Rattle.recognised.proofs.lists.direct_edge.Goals as goal
 
--- `recognised::direct_edge` meets its contract.
-
 pub overflow_mul-s : goal.overflow_mul-s
 overflow_mul-s c = let R = c.requires.2.edge c.args.k c.requires.3 in
     omega (arith, R.from, R.to, c.requires.2.header.few)

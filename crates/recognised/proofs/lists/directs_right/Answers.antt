@@ -5,8 +5,6 @@ use native.Mathlib.Omega.{arith}
 use borrow.Author.Rules.{rules}
 use Rattle.recognised.proofs.lists.directs_right.Goals as goal
 
--- `recognised::directs_right` meets its contract.
-
 pub direct_delays-requires : goal.direct_delays-requires
 direct_delays-requires c = (search rules, search rules, c.requires.0, c.requires.2, blank-fresh _)
 

@@ -4,9 +4,6 @@ use mathlib.Core.Path.{refl}
 use native.Mathlib.Omega.{arith}
 use Rattle.recognised.proofs.lists.leads.Goals as goal
 
--- `recognised::leads` meets its contract.
-
--- Assumes nothing.
 pub returns-then-t-s : goal.returns-then-t-s
 returns-then-t-s c = rw (eq-eqb c.args.t c.args.s (omega arith)) refl
 

@@ -2,8 +2,5 @@ use Rattle.recognised.proofs.Walks.{near-is}
 use native.Mathlib.Omega.{arith}
 use Rattle.recognised.proofs.lists.near_at.Goals as goal
 
--- `recognised::near_at` meets its contract.
-
--- Assumes nothing.
 pub returns : goal.returns
 returns c = near-is _ _ (omega arith)

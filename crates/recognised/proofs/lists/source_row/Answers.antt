@@ -5,8 +5,6 @@ use borrow.Author.Tests.{eqb-true, eqb-false}
 use native.Mathlib.Omega.{arith}
 use Rattle.recognised.proofs.lists.source_row.Goals as goal
 
--- `recognised::source_row` meets its contract.
-
 pub returns-then-wide_in_source-s : goal.returns-then-wide_in_source-s
 returns-then-wide_in_source-s c = let B = bytes_of c.args.plan.now (λ i. (c.type_inv.plan i).fits) in
     tells_false (λ S. let r = row-no c.args.plan.now B c.args.place c.args.k c.args.s c.args.d c.requires.0 c.requires.1 (omega arith) S in let h = head-row c.args.plan.now B c.args.place c.args.k c.args.s c.args.d c.requires.0 r.0 r.1 in omega arith)

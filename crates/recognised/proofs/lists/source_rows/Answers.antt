@@ -1,15 +1,12 @@
 use Rattle.recognised.proofs.Walks.{sources-none, sources-held, sources-skip, sources-row, whole_same}
-use Rattle.recognised.proofs.Walks.{sources-none, sources-held, sources-skip, sources-row}
-use Rattle.recognised.proofs.Cells.{tells_false, not_taken, not_left}
+use Rattle.recognised.proofs.Cells.{tells_false}
 use Rattle.image.specs.Image.{source_row}
 use borrow.Author.Tests.{eqb-true, eqb-false}
-use mathlib.Core.Logic.{⊎_elim}
 use mathlib.Core.Path.{◌≡◌}
 use Prim.Native.Nat.{◌+◌, ◌-◌}
 use native.Mathlib.Omega.{arith}
 use Rattle.recognised.proofs.lists.source_rows.Goals as goal
-
--- `recognised::source_rows` meets its contract.
+use Rattle.recognised.proofs.lists.source_rows.Goals.{then-kind-p-eq0+else-q-c+else-not-source_row, else-kind-p-eq0}
 
 pub loop-s-init : goal.loop-s-init
 loop-s-init c = (omega arith, omega arith, sources-none c.args.plan.now c.args.kind.now c.args.value.now c.args.place c.args.k c.args.t (λ i. (c.type_inv.value i).fits) (omega arith))
@@ -41,7 +38,7 @@ source_row-requires c = omega arith
 
 pub returns-then-not-source_row : goal.returns-then-not-source_row
 returns-then-not-source_row c = let l = c.loop-s in
-    tells_false (λ X. let r = sources-row c.args.plan.now c.args.kind.now c.args.value.now c.args.place c.args.k c.args.t (λ i. (c.type_inv.value i).fits) l.s c.args.n l.q c.args.c (omega arith) c.if-kind-p-eq0.true l.invariant.2 X in c.source_row.ensures.wrong (not_taken _ c.if-not-source_row.true) r.1)
+    tells_false (λ X. let r = sources-row c.args.plan.now c.args.kind.now c.args.value.now c.args.place c.args.k c.args.t (λ i. (c.type_inv.value i).fits) l.s c.args.n l.q c.args.c (omega arith) c.if-kind-p-eq0.true l.invariant.2 X in c.source_row.ensures.wrong c.if-not-source_row.true r.1)
 
 pub overflow_add-q : goal.overflow_add-q
 overflow_add-q c = omega arith
@@ -54,10 +51,12 @@ loop-s-smaller c = omega arith
 
 pub loop-s-preserved : goal.loop-s-preserved
 loop-s-preserved c = let l = c.loop-s in
-    ⊎_elim
-    (λ w. let e : c.if-kind-p-eq0.q ≡ l.q + 1 = omega arith in (omega arith, omega arith, rw e (sources-held c.args.plan.now c.args.kind.now c.args.value.now c.args.place c.args.k c.args.t (λ i. (c.type_inv.value i).fits) l.s l.q w.0.taken (w.3.ensures.right (not_left _ w.4.left)) l.invariant.2)))
-    (λ w. let e : c.if-kind-p-eq0.q ≡ l.q = omega arith in (omega arith, omega arith, rw e (sources-skip c.args.plan.now c.args.kind.now c.args.value.now c.args.place c.args.k c.args.t (λ i. (c.type_inv.value i).fits) l.s l.q w.0.left l.invariant.2)))
-    c.if-kind-p-eq0.branch
+    elim c.if-kind-p-eq0.branch [
+      then-kind-p-eq0+else-q-c+else-not-source_row w ↦ let e : c.if-kind-p-eq0.q ≡ l.q + 1 = omega arith in
+        (omega arith, omega arith, rw e (sources-held c.args.plan.now c.args.kind.now c.args.value.now c.args.place c.args.k c.args.t (λ i. (c.type_inv.value i).fits) l.s l.q w.if-kind-p-eq0.true (w.source_row.ensures.right w.if-not-source_row.false) l.invariant.2))
+    | else-kind-p-eq0 w ↦ let e : c.if-kind-p-eq0.q ≡ l.q = omega arith in
+        (omega arith, omega arith, rw e (sources-skip c.args.plan.now c.args.kind.now c.args.value.now c.args.place c.args.k c.args.t (λ i. (c.type_inv.value i).fits) l.s l.q w.if-kind-p-eq0.false l.invariant.2))
+    ]
 
 pub returns : goal.returns
 returns c = let l = c.loop-s in

@@ -6,9 +6,6 @@ use Rattle.recognised.proofs.Cells.{tells_false}
 use native.Mathlib.Omega.{arith}
 use Rattle.recognised.proofs.lists.target_member.Goals as goal
 
--- `recognised::target_member` meets its contract.
-
--- Assumes nothing.
 pub in_member-requires : goal.in_member-requires
 in_member-requires c = omega arith
 

@@ -4,8 +4,6 @@ use borrow.Author.Tests.{eqb-true, eqb-false}
 use native.Mathlib.Omega.{arith}
 use Rattle.recognised.proofs.lists.target_row.Goals as goal
 
--- `recognised::target_row` meets its contract.
-
 pub returns : goal.returns
 returns c = let B = bytes_of c.args.plan.now (λ i. (c.type_inv.plan i).fits) in
     record {

@@ -6,24 +6,22 @@ use Rattle.delays.specs.Cells.{grid}
 use Rattle.delays.specs.Lists.{passing}
 use borrow.Author.Tests.{eqb-true, eqb-false}
 use Prim.Native.Nat.{ℕ, ◌-◌}
-use Rattle.recognised.proofs.Cells.{tells_false, not_taken, not_left}
+use Rattle.recognised.proofs.Cells.{tells_false}
 use native.Mathlib.Omega.{arith}
 use Rattle.recognised.proofs.lists.target_table.Goals as goal
-
--- `recognised::target_table` meets its contract.
 
 pub loop-s-init : goal.loop-s-init
 loop-s-init c = (omega arith, omega arith, parts_none c.args.plan.now target_row c.args.place 4 c.args.rows (downstream_first c.args.plan.now) (downstream_count c.args.plan.now) (λ (s : ℕ). passing (onward (grid c.args.kind.now c.args.value.now) s) c.args.n) c.args.n)
 
 pub returns-then-not-target_member : goal.returns-then-not-target_member
 returns-then-not-target_member c = let l = c.loop-s in
-    tells_false (λ T. c.target_member.ensures.wrong (not_taken _ c.if-not-target_member.true) (parts-no c.args.plan.now target_row c.args.place 4 c.args.rows (downstream_first c.args.plan.now) (downstream_count c.args.plan.now) (λ (s : ℕ). passing (onward (grid c.args.kind.now c.args.value.now) s) c.args.n) c.args.n l.s l.k (omega arith) l.invariant.2 T))
+    tells_false (λ T. c.target_member.ensures.wrong c.if-not-target_member.true (parts-no c.args.plan.now target_row c.args.place 4 c.args.rows (downstream_first c.args.plan.now) (downstream_count c.args.plan.now) (λ (s : ℕ). passing (onward (grid c.args.kind.now c.args.value.now) s) c.args.n) c.args.n l.s l.k (omega arith) l.invariant.2 T))
 
 pub in_member-k-requires : goal.in_member-k-requires
 in_member-k-requires c = omega arith
 
 pub overflow_add-k : goal.overflow_add-k
-overflow_add-k c = let r = (c.target_member.ensures.right (not_left _ c.if-not-target_member.false)).1 in omega arith
+overflow_add-k c = let r = (c.target_member.ensures.right c.if-not-target_member.false).1 in omega arith
 
 pub overflow_add-s : goal.overflow_add-s
 overflow_add-s c = omega arith
@@ -33,7 +31,7 @@ loop-s-smaller c = omega arith
 
 pub loop-s-preserved : goal.loop-s-preserved
 loop-s-preserved c = let l = c.loop-s in
-    let r = c.target_member.ensures.right (not_left _ c.if-not-target_member.false) in
+    let r = c.target_member.ensures.right c.if-not-target_member.false in
     (omega arith, let z = r.1 in omega arith, parts_more c.args.plan.now target_row c.args.place 4 c.args.rows (downstream_first c.args.plan.now) (downstream_count c.args.plan.now) (λ (s : ℕ). passing (onward (grid c.args.kind.now c.args.value.now) s) c.args.n) c.args.n l.s l.k _ l.invariant.2 r.0 c.in_member-k.ensures)
 
 pub returns : goal.returns

@@ -9,7 +9,7 @@ use Rattle.recognised.proofs.lists.target_table.Given as goal
 
 -- Assumes nothing.
 abbrev pub invariant-loop-s : goal.invariant-loop-s
-invariant-loop-s l = (l.s ≤ l.n) × (l.k ≤ l.rows) × Parts l.plan target_row l.place 4 l.rows (downstream_first l.plan) (downstream_count l.plan) (λ (l.s : ℕ). passing (onward (grid l.kind l.value) l.s) l.n) l.n l.s l.k
+invariant-loop-s l = (l.s ≤ l.n) × (l.k ≤ l.rows) × Parts l.plan target_row l.place 4 l.rows (downstream_first l.plan) (downstream_count l.plan) (λ (x : ℕ). passing (onward (grid l.kind l.value) x) l.n) l.n l.s l.k
 
 abbrev pub decreases-loop-s : goal.decreases-loop-s
 decreases-loop-s l = l.n - l.s

@@ -3,9 +3,6 @@ use Rattle.delays.specs.Cells.{grid}
 use Rattle.recognised.proofs.Cells.{rest-there, rest-ahead}
 use Rattle.recognised.proofs.pairs.ahead.Goals as goal
 
--- `recognised::ahead` meets its contract.
-
--- Assumes nothing.
 pub returns-then-u-t : goal.returns-then-u-t
 returns-then-u-t c = rest-there _ _ _ (omega arith)
 

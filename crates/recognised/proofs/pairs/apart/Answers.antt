@@ -1,11 +1,9 @@
-use Rattle.recognised.proofs.Cells.{tells_true, tells_false, not_taken, not_left}
+use Rattle.recognised.proofs.Cells.{tells_true, tells_false}
 use Rattle.delays.specs.Cells.{grid}
 use Prim.Native.Nat.{◌-◌}
 use borrow.Author.Count.{below_more}
 use native.Mathlib.Omega.{arith}
 use Rattle.recognised.proofs.pairs.apart.Goals as goal
-
--- `recognised::apart` meets its contract.
 
 pub loop-i-init : goal.loop-i-init
 loop-i-init c = (omega arith, λ x l. absurd (omega arith))
@@ -34,7 +32,7 @@ bounds-cv-i c = omega arith
 pub returns-then-not-positive : goal.returns-then-not-positive
 unfolding grid
 returns-then-not-positive c = let l = c.loop-i in
-    tells_false (λ all. c.positive.ensures.wrong (not_taken _ c.if-not-positive.true) (all l.i (omega arith)))
+    tells_false (λ all. c.positive.ensures.wrong c.if-not-positive.true (all l.i (omega arith)))
 
 pub overflow_add-i-in-loop-i-2 : goal.overflow_add-i-in-loop-i-2
 overflow_add-i-in-loop-i-2 c = omega arith
@@ -45,7 +43,7 @@ loop-i-smaller c = omega arith
 pub loop-i-preserved : goal.loop-i-preserved
 unfolding grid
 loop-i-preserved c = let l = c.loop-i in
-    (omega arith, below_more _ _ l.invariant.1 (c.positive.ensures.right (not_left _ c.if-not-positive.false)))
+    (omega arith, below_more _ _ l.invariant.1 (c.positive.ensures.right c.if-not-positive.false))
 
 pub returns : goal.returns
 returns c = let l = c.loop-i in tells_true (λ x h. l.invariant.1 x (omega arith))

@@ -3,8 +3,6 @@ use Rattle.recognised.proofs.Sits.{bytes_of}
 use borrow.Author.Rules.{rules}
 use Rattle.recognised.proofs.pairs.by_kinds.Goals as goal
 
--- `recognised::by_kinds` meets its contract.
-
 pub steps-requires : goal.steps-requires
 steps-requires c = (search rules, search rules, search rules, search rules, c.requires.2, c.requires.3, c.requires.4, blank-fresh _)
 

@@ -1,8 +1,6 @@
 use native.Mathlib.Omega.{arith}
 use Rattle.recognised.proofs.pairs.edge.Goals as goal
 
--- `recognised::edge` meets its contract.
-
 pub sweep-requires : goal.sweep-requires
 sweep-requires c = let R = c.requires.4.edge c.args.k c.requires.6 in
     omega (arith, R.from, R.to, c.requires.4.header.few)

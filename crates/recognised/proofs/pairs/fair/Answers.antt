@@ -2,9 +2,6 @@ use native.Mathlib.Omega.{arith}
 use Rattle.recognised.proofs.Cells.{tells_false, fair-near, fair-differ, fair-far, fair-none}
 use Rattle.recognised.proofs.pairs.fair.Goals as goal
 
--- `recognised::fair` meets its contract.
-
--- Assumes nothing.
 pub returns-then-a-eq0 : goal.returns-then-a-eq0
 returns-then-a-eq0 c = fair-near _ _ _ _ (omega arith) (omega arith) (omega arith) (omega arith)
 

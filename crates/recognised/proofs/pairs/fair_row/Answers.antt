@@ -1,10 +1,8 @@
 use Prim.Native.Nat.{◌-◌}
-use Rattle.recognised.proofs.Cells.{tells_true, tells_false, not_taken, not_left}
+use Rattle.recognised.proofs.Cells.{tells_true, tells_false}
 use borrow.Author.Count.{below_more}
 use native.Mathlib.Omega.{arith}
 use Rattle.recognised.proofs.pairs.fair_row.Goals as goal
-
--- `recognised::fair_row` meets its contract.
 
 pub loop-t-init : goal.loop-t-init
 loop-t-init c = (omega arith, λ x l. absurd (omega arith))
@@ -14,7 +12,7 @@ fair_at-requires c = omega arith
 
 pub returns-then-not-fair_at : goal.returns-then-not-fair_at
 returns-then-not-fair_at c = let l = c.loop-t in
-    tells_false (λ all. c.fair_at.ensures.wrong (not_taken _ c.if-not-fair_at.true) (all l.t (omega arith)))
+    tells_false (λ all. c.fair_at.ensures.wrong c.if-not-fair_at.true (all l.t (omega arith)))
 
 pub overflow_add-t : goal.overflow_add-t
 overflow_add-t c = omega arith
@@ -24,7 +22,7 @@ loop-t-smaller c = omega arith
 
 pub loop-t-preserved : goal.loop-t-preserved
 loop-t-preserved c = let l = c.loop-t in
-    (omega arith, below_more _ _ l.invariant.1 (c.fair_at.ensures.right (not_left _ c.if-not-fair_at.false)))
+    (omega arith, below_more _ _ l.invariant.1 (c.fair_at.ensures.right c.if-not-fair_at.false))
 
 pub returns : goal.returns
 returns c = let l = c.loop-t in tells_true (λ t h. l.invariant.1 t (omega arith))

@@ -2,7 +2,5 @@ use native.Mathlib.Omega.{arith}
 use Rattle.recognised.proofs.Cells.{hopped}
 use Rattle.recognised.proofs.pairs.hop.Goals as goal
 
--- `recognised::hop` meets its contract.
-
 pub returns : goal.returns
 returns c = hopped _ _ _ _ _ _ _ _ _ c.lower.ensures c.sum-d.ensures.sum c.ahead.ensures (omega arith)

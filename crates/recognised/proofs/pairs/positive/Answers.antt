@@ -4,9 +4,6 @@ use borrow.Author.Tests.{ltb-true, ltb-false}
 use native.Mathlib.Omega.{arith}
 use Rattle.recognised.proofs.pairs.positive.Goals as goal
 
--- `recognised::positive` meets its contract.
-
--- Assumes nothing.
 pub returns-then-kind-eq0 : goal.returns-then-kind-eq0
 returns-then-kind-eq0 c = let e = cell_cut c.args.kind c.args.value (omega arith) in
     record { right = λ t z. omega (arith, ltb-true); wrong = λ f P. P (omega (arith, ltb-false)) }

@@ -5,8 +5,6 @@ use Prim.Native.Nat.{◌-◌}
 use native.Mathlib.Omega.{arith}
 use Rattle.recognised.proofs.pairs.steps.Goals as goal
 
--- `recognised::steps` meets its contract.
-
 pub loop-k-init : goal.loop-k-init
 loop-k-init c = (omega arith, omega arith, omega arith, covers-none _ _ _ _ _ _ _ (omega (arith, c.requires.4.header.few)) c.requires.7)
 
@@ -22,8 +20,8 @@ loop-k-smaller c = omega arith
 pub loop-k-preserved : goal.loop-k-preserved
 loop-k-preserved c = let l = c.loop-k in
     let r = c.edge in (
-      omega (arith, r.auto.1.0),
-      omega (arith, r.auto.1.1.0),
+      omega arith,
+      omega arith,
       omega arith,
       covers-edge c.args.plan.now c.requires.4.header (grid c.args.ck.now c.args.cv.now) c.args.n (omega (arith, c.requires.4.header.few)) l.kind l.value _ _ l.k (omega arith) l.invariant.3 r.ensures,
     )

@@ -4,8 +4,6 @@ use Rattle.recognised.proofs.Cells.{swept_none, swept_more}
 use native.Mathlib.Omega.{arith}
 use Rattle.recognised.proofs.pairs.sweep.Goals as goal
 
--- `recognised::sweep` meets its contract.
-
 pub loop-t-init : goal.loop-t-init
 loop-t-init c = (omega arith, omega arith, omega arith, swept_none _ _ _ _)
 
@@ -21,8 +19,8 @@ loop-t-smaller c = omega arith
 pub loop-t-preserved : goal.loop-t-preserved
 loop-t-preserved c = let l = c.loop-t in
     let r = c.hop in (
-      omega (arith, r.auto.0),
-      omega (arith, r.auto.1.0),
+      omega arith,
+      omega arith,
       omega arith,
       swept_more c.args.kind.now c.args.value.now l.kind l.value _ _ c.args.s _ l.t l.invariant.3 r.ensures,
     )

@@ -5,8 +5,6 @@ use borrow.Author.Count.{below_more}
 use native.Mathlib.Omega.{arith}
 use Rattle.recognised.proofs.plain.brief_rows.Goals as goal
 
--- `recognised::brief_rows` meets its contract.
-
 pub loop-k-init : goal.loop-k-init
 loop-k-init c = (omega arith, λ x l. absurd (omega arith))
 

@@ -1,9 +1,7 @@
 use mathlib.Core.Path.{sym, ◌∙◌}
-use Rattle.recognised.proofs.Cells.{not_left, never}
+use Rattle.recognised.proofs.Cells.{never}
 use native.Mathlib.Omega.{arith}
 use Rattle.recognised.proofs.plain.briefly.Goals as goal
-
--- `recognised::briefly` meets its contract.
 
 pub returns-then-not-brief_edges : goal.returns-then-not-brief_edges
 returns-then-not-brief_edges c = λ e. never (sym e)
@@ -19,4 +17,4 @@ brief_rows-requires c = let H = c.requires.0 in omega (arith, H.transitive-place
 
 pub returns : goal.returns
 returns c = let e = c.number-place.ensures ∙ c.requires.0.transitive-place in
-    λ y. record { edge = c.brief_edges.ensures (not_left _ c.if-not-brief_edges.false); row = rw (← e, ← c.number.ensures) (c.brief_rows.ensures y) }
+    λ y. record { edge = c.brief_edges.ensures c.if-not-brief_edges.false; row = rw (← e, ← c.number.ensures) (c.brief_rows.ensures y) }

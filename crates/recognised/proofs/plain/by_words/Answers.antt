@@ -4,8 +4,6 @@ use native.Mathlib.Omega.{arith}
 use borrow.Author.Rules.{rules}
 use Rattle.recognised.proofs.plain.by_words.Goals as goal
 
--- `recognised::by_words` meets its contract.
-
 pub passes-requires : goal.passes-requires
 passes-requires c = (search rules, search rules, c.requires.2, c.requires.3, c.requires.4, c.requires.6.edge, plains-brief c.args.n c.args.ck.now c.args.cv.now (omega (arith, c.requires.2.header.few)) c.requires.6.plain, fresh-words)
 

@@ -3,8 +3,6 @@ use Rattle.recognised.proofs.Words.{put_same, brief-sum}
 use native.Mathlib.Omega.{arith}
 use Rattle.recognised.proofs.plain.pass.Goals as goal
 
--- `recognised::pass` meets its contract.
-
 pub overflow_add-x-2 : goal.overflow_add-x-2
 overflow_add-x-2 c = omega (arith, c.requires.6.most)
 

@@ -1,8 +1,6 @@
 use native.Mathlib.Omega.{arith}
 use Rattle.recognised.proofs.plain.pass_at.Goals as goal
 
--- `recognised::pass_at` meets its contract.
-
 pub pass_edge-requires : goal.pass_edge-requires
 pass_edge-requires c = let R = c.requires.2.edge c.args.k c.requires.4 in
     let h = c.requires.2.header.few in

@@ -4,8 +4,6 @@ use Rattle.recognised.proofs.Words.{passed_none, passed-more}
 use native.Mathlib.Omega.{arith}
 use Rattle.recognised.proofs.plain.pass_row.Goals as goal
 
--- `recognised::pass_row` meets its contract.
-
 pub loop-t-init : goal.loop-t-init
 loop-t-init c = (omega arith, omega arith, passed_none _ _ _)
 
@@ -21,7 +19,7 @@ loop-t-smaller c = omega arith
 pub loop-t-preserved : goal.loop-t-preserved
 loop-t-preserved c = let l = c.loop-t in
     let r = c.pass in
-    (omega (arith, r.auto.0), omega arith, passed-more c.args.out.now l.out _ c.args.s _ l.t l.invariant.2 r.ensures)
+    (omega arith, omega arith, passed-more c.args.out.now l.out _ c.args.s _ l.t l.invariant.2 r.ensures)
 
 pub shape_of-out : goal.shape_of-out
 shape_of-out c = omega arith

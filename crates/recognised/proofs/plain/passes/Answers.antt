@@ -5,8 +5,6 @@ use Rattle.recognised.proofs.Words.{says_none, says-edge}
 use native.Mathlib.Omega.{arith}
 use Rattle.recognised.proofs.plain.passes.Goals as goal
 
--- `recognised::passes` meets its contract.
-
 pub loop-k-init : goal.loop-k-init
 loop-k-init c = (omega arith, omega arith, says_none _ _ _ _ _ _ (omega (arith, c.requires.2.header.few)) c.requires.7)
 
@@ -22,7 +20,7 @@ loop-k-smaller c = omega arith
 pub loop-k-preserved : goal.loop-k-preserved
 loop-k-preserved c = let l = c.loop-k in
     let r = c.pass_at in (
-      omega (arith, r.auto.1.0),
+      omega arith,
       omega arith,
       says-edge c.args.plan.now c.requires.2.header (table c.args.words.now) c.args.n (omega (arith, c.requires.2.header.few)) l.out _ l.k (omega arith) l.invariant.2 r.ensures,
     )

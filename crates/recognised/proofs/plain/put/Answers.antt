@@ -2,7 +2,5 @@ use Rattle.recognised.proofs.Words.{put_word}
 use native.Mathlib.Omega.{arith}
 use Rattle.recognised.proofs.plain.put.Goals as goal
 
--- `recognised::put` meets its contract.
-
 pub returns : goal.returns
-returns c = put_word c.args.out.now c.args.p c.args.x _ (omega arith) c.less.ensures (omega (arith, (c.type_inv.out c.args.p).fits)) (omega arith)
+returns c = put_word c.args.out.now c.args.p c.args.x _ (omega arith) c.less.ensures (omega arith) (omega arith)

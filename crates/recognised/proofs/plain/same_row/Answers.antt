@@ -1,12 +1,10 @@
 use Prim.Native.Nat.{◌-◌}
 use mathlib.Core.Path.{◌≡◌}
-use mathlib.Core.Logic.{⊎_elim}
 use borrow.Author.Tests.{eqb-true, eqb-false}
 use borrow.Author.Count.{below_more}
 use native.Mathlib.Omega.{arith}
 use Rattle.recognised.proofs.plain.same_row.Goals as goal
-
--- `recognised::same_row` meets its contract.
+use Rattle.recognised.proofs.plain.same_row.Goals.{then-out-p, else-out-p}
 
 pub loop-t-init : goal.loop-t-init
 loop-t-init c = (omega arith, λ e x l. absurd (omega arith), λ e. absurd (omega arith))
@@ -37,10 +35,10 @@ loop-t-smaller c = omega arith
 
 pub loop-t-preserved : goal.loop-t-preserved
 loop-t-preserved c = let l = c.loop-t in
-    ⊎_elim
-    (λ w. let e : c.if-out-p.wrong ≡ 1 = omega arith in (omega arith, λ z. absurd (omega arith), λ z all. absurd (omega (arith, all l.t (omega arith)))))
-    (λ w. let e : c.if-out-p.wrong ≡ l.wrong = omega arith in (omega arith, λ z. below_more _ _ (l.invariant.1 (omega arith)) (omega arith), λ z all. l.invariant.2 (omega arith) (λ x h. all x (omega arith))))
-    c.if-out-p.branch
+    elim c.if-out-p.branch [
+      then-out-p w ↦ let e : c.if-out-p.wrong ≡ 1 = omega arith in (omega arith, λ z. absurd (omega arith), λ z all. absurd (omega (arith, all l.t (omega arith))))
+    | else-out-p w ↦ let e : c.if-out-p.wrong ≡ l.wrong = omega arith in (omega arith, λ z. below_more _ _ (l.invariant.1 (omega arith)) (omega arith), λ z all. l.invariant.2 (omega arith) (λ x h. all x (omega arith)))
+    ]
 
 pub returns : goal.returns
 returns c = let l = c.loop-t in

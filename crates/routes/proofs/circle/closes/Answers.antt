@@ -13,4 +13,4 @@ closing-requires c = let F = c.requires.0 in
 
 pub returns : goal.returns
 returns c = let s = c in
-    c.closing.ensures ∙ closes-some s.args.plan _ _ (walk-long s.args.walk _ s.well-formed.1.0) s.requires.1 c.if-walk-eq0.false
+    c.closing.ensures ∙ closes-some s.args.plan _ _ (walk-long s.args.walk _ s.well_formed.1.0) s.requires.1 c.if-walk-eq0.false

@@ -31,9 +31,7 @@ bounds-edges-k c = let a = c.args in
 
 pub returns-then-not-goes_on : goal.returns-then-not-goes_on
 unfolding closing
-returns-then-not-goes_on c = let l = c in
-    let a = l.before.before.before.before.before.args in
-    sym (every-stop _ a.n l.loop.i (omega arith) (rw c.after-k.ensures at (sym c.goes_on.ensures ∙ c.if-not-goes_on.true)))
+returns-then-not-goes_on c = sym (every-stop _ c.args.n c.loop-i.i (omega arith) (rw c.after-k.ensures at (sym c.goes_on.ensures ∙ c.if-not-goes_on.true)))
 
 pub overflow_add-i : goal.overflow_add-i
 overflow_add-i c = omega arith

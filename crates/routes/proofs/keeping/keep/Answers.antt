@@ -32,7 +32,7 @@ loop-i-smaller c = omega arith
 
 pub loop-i-preserved : goal.loop-i-preserved
 loop-i-preserved c = let l = c.loop-i in
-    (omega arith, simp length-set l.invariant.1, keeping-more _ _ _ _ _ l.i l.auto _ (omega arith) l.invariant.2 (rw c.wide.ensures at c.keep_of.ensures))
+    (omega arith, simp length-set l.invariant.1, keeping-more _ _ _ _ _ l.i l.kept _ (omega arith) l.invariant.2 (rw c.wide.ensures at c.keep_of.ensures))
 
 pub shape_of-kept : goal.shape_of-kept
 shape_of-kept c = c.loop-i.invariant.1

@@ -1,0 +1,4 @@
+use Rattle.routes.proofs.+trace.Given as goal
+
+abbrev pub decreases-trace : goal.decreases-trace
+decreases-trace l = l.left
