@@ -49,9 +49,9 @@ bounds-all-i-in-loop-c c = let h = c.requires.transitive-rows.at c.loop-j.j (ome
 
 pub loop-c-preserved : goal.loop-c-preserved
 loop-c-preserved c = let source = c.transitive_source-i in (
-      omega arith,
-      bound-more _ _ _ _ _ _ _ _ _ _ c.transitive_first-first.ensures source.ensures c.transitive_delay.ensures c.loop-c.invariant.1 c.lowered.ensures,
-    )
+  omega arith,
+  bound-more _ _ _ _ _ _ _ _ _ _ c.transitive_first-first.ensures source.ensures c.transitive_delay.ensures c.loop-c.invariant.1 c.lowered.ensures,
+)
 
 pub loop-j-preserved : goal.loop-j-preserved
 loop-j-preserved c = (omega arith, bounds-more _ _ _ _ _ _ _ c.loop-j.invariant.1 c.loop-c.invariant.1 (omega arith) c.transitive_count-count.ensures)
