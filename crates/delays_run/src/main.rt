@@ -7,6 +7,7 @@ ghost use Rattle.delays_run.specs.Built.{Built};
 
 use delays::Reach;
 use plans::{Plan, Refusal};
+use std::io;
 
 // 2^63, and the largest delay.
 const HALF: u64 = 9223372036854775808;
@@ -63,62 +64,64 @@ fn with_edge(p: Plan, s: u8, t: u8, d: u64) -> Plan
     }
 }
 
-fn text(bytes: &[u8]) {
-    io::write_all(libc::STDOUT_FILENO, bytes);
+fn text(rt: &impl Print, words: &str) -> io::Result<()> {
+    print!(rt; "{words}")
 }
 
-fn number(n: u64) {
-    io::print_decimal(libc::STDOUT_FILENO, n);
+fn number(rt: &impl Print, n: u64) -> io::Result<()> {
+    print!(rt; "{n}")
 }
 
 // A delay, `far`, or `-` where there is no path.
-fn show_entry(kind: &[u8], value: &[u64], s: usize, t: usize)
+fn show_entry(rt: &impl Print, kind: &[u8], value: &[u64], s: usize, t: usize) -> io::Result<()>
     requires { (length kind.now ≡ 1024) × (length value.now ≡ 1024) × (s < 32) × (t < 32) }
 {
     let reach = delays::read_reach(kind, value, s, t);
-    text(b" ");
+    text(rt, " ")?;
     match reach {
-        Reach::At(d) => number(d),
-        Reach::TooFar => text(b"far"),
-        Reach::None => text(b"-"),
+        Reach::At(d) => number(rt, d)?,
+        Reach::TooFar => text(rt, "far")?,
+        Reach::None => text(rt, "-")?,
     }
+    Ok(())
 }
 
-fn show_row(kind: &[u8], value: &[u64], n: usize, s: usize)
+fn show_row(rt: &impl Print, kind: &[u8], value: &[u64], n: usize, s: usize) -> io::Result<()>
     requires { (length kind.now ≡ 1024) × (length value.now ≡ 1024) × (s < 32) × (n ≤ 32) }
 {
     let mut t: usize = 0;
     while t < n {
-        show_entry(kind, value, s, t);
+        show_entry(rt, kind, value, s, t)?;
         t += 1;
     }
-    text(b"\n");
+    text(rt, "\n")
 }
 
-fn show_matrix(kind: &[u8], value: &[u64], n: usize)
+fn show_matrix(rt: &impl Print, kind: &[u8], value: &[u64], n: usize) -> io::Result<()>
     requires { (length kind.now ≡ 1024) × (length value.now ≡ 1024) × (n ≤ 32) }
 {
     let mut s: usize = 0;
     while s < n {
-        show_row(kind, value, n, s);
+        show_row(rt, kind, value, n, s)?;
         s += 1;
     }
+    Ok(())
 }
 
-fn show_refusal(r: Refusal) {
-    text(b"refusal ");
-    number(r.number);
-    text(b" mask ");
-    number(r.mask);
-    text(b" ids ");
-    number(r.first);
-    text(b" ");
-    number(r.second);
-    text(b"\n");
+fn show_refusal(rt: &impl Print, r: Refusal) -> io::Result<()> {
+    text(rt, "refusal ")?;
+    number(rt, r.number)?;
+    text(rt, " mask ")?;
+    number(rt, r.mask)?;
+    text(rt, " ids ")?;
+    number(rt, r.first)?;
+    text(rt, " ")?;
+    number(rt, r.second)?;
+    text(rt, "\n")
 }
 
 // The plan analysed and shown.
-fn show(name: &[u8], p: Plan)
+fn show(rt: &impl Print, name: &str, p: Plan) -> io::Result<()>
     requires { Fits p }
 {
     let mut directs = [0u8; 1024];
@@ -126,13 +129,13 @@ fn show(name: &[u8], p: Plan)
     let mut kinds = [0u8; 1024];
     let mut values = [0u64; 1024];
     let r = delays::analyse(p, &mut directs, &mut distances, &mut kinds, &mut values);
-    text(name);
-    text(b": ");
-    show_refusal(r);
-    text(b"direct\n");
-    show_matrix(&directs, &distances, p.members);
-    text(b"minimum\n");
-    show_matrix(&kinds, &values, p.members);
+    text(rt, name)?;
+    text(rt, ": ")?;
+    show_refusal(rt, r)?;
+    text(rt, "direct\n")?;
+    show_matrix(rt, &directs, &distances, p.members)?;
+    text(rt, "minimum\n")?;
+    show_matrix(rt, &kinds, &values, p.members)
 }
 
 // Two edges of 2^63 in a row.
@@ -167,16 +170,17 @@ fn ring() -> Plan
     with_edge(with_edge(p, 1, 2, 2), 2, 0, 3)
 }
 
-fn main() {
+fn main(rt: HostRuntime) -> io::Result<()> {
     let far = halves();
-    show(b"two halves", far);
+    show(&rt, "two halves", far)?;
     show(
-        b"two halves and the largest beside them",
+        &rt,
+        "two halves and the largest beside them",
         with_edge(far, 0, 2, LARGEST),
-    );
-    show(b"nine beside two and three", shorter());
-    show(b"a zero self-loop", with_edge(blank(1), 0, 0, 0));
-    show(b"two zero cycles", tangled());
-    show(b"a ring", ring());
-    show(b"no members", blank(0));
+    )?;
+    show(&rt, "nine beside two and three", shorter())?;
+    show(&rt, "a zero self-loop", with_edge(blank(1), 0, 0, 0))?;
+    show(&rt, "two zero cycles", tangled())?;
+    show(&rt, "a ring", ring())?;
+    show(&rt, "no members", blank(0))
 }

@@ -5,7 +5,7 @@
 ghost use Rattle.std.specs.Prelude.{◌<◌, ◌≤◌, length};
 
 use image::Compiled;
-use libc::STDOUT_FILENO;
+use std::io;
 
 // The most that plan bytes can be, and the bytes of the output.
 const MOST: usize = 8728;
@@ -82,14 +82,14 @@ fn edge(
     put64(three, at + 24, delay)
 }
 
-fn text(bytes: &[u8]) {
-    io::write_all(STDOUT_FILENO, bytes);
+fn text(rt: &impl Print, words: &str) -> io::Result<()> {
+    print!(rt; "{words}")
 }
 
 // A gap and a number.
-fn item(x: u64) {
-    text(b" ");
-    io::print_decimal(STDOUT_FILENO, x);
+fn item(rt: &impl Print, x: u64) -> io::Result<()> {
+    text(rt, " ")?;
+    print!(rt; "{x}")
 }
 
 fn wide(x: u8) -> u64
@@ -138,14 +138,14 @@ fn marked(b: &[u8]) -> u64 {
 }
 
 // Every u32 of the bytes.
-fn words(b: &[u8]) {
+fn words(rt: &impl Print, b: &[u8]) -> io::Result<()> {
     let n = b.len() / 4;
     let mut k: usize = 0;
     while k < n {
-        item(wider(basis::read_u32(b, 4 * k)));
+        item(rt, wider(basis::read_u32(b, 4 * k)))?;
         k += 1;
     }
-    text(b"\n");
+    text(rt, "\n")
 }
 
 // An output, marked.
@@ -161,33 +161,34 @@ fn compile(plan: &[u8], given: usize, out: &mut [u8], room: usize) -> Compiled
 }
 
 // The refusal and what it gives, and the total.
-fn answer(c: Compiled) {
+fn answer(rt: &impl Print, c: Compiled) -> io::Result<()> {
     let r = c.refusal;
-    text(b"refusal");
-    item(r.number);
-    item(r.mask);
-    item(r.first);
-    item(r.second);
-    text(b" total");
-    item(c.total as u64);
+    text(rt, "refusal")?;
+    item(rt, r.number)?;
+    item(rt, r.mask)?;
+    item(rt, r.first)?;
+    item(rt, r.second)?;
+    text(rt, " total")?;
+    item(rt, c.total as u64)
 }
 
 // The sum of the bytes written, and how many are as they were.
-fn bytes(out: &[u8], total: usize) {
+fn bytes(rt: &impl Print, out: &[u8], total: usize) -> io::Result<()> {
     if total <= out.len() {
-        text(b" sum");
-        item(digest(&out[..total]));
-        text(b" left");
-        item(marked(&out[total..]));
+        text(rt, " sum")?;
+        item(rt, digest(&out[..total]))?;
+        text(rt, " left")?;
+        item(rt, marked(&out[total..]))?;
     }
-    text(b"\n");
+    text(rt, "\n")
 }
 
 // Every u32 of the bytes written.
-fn image(out: &[u8], total: usize) {
+fn image(rt: &impl Print, out: &[u8], total: usize) -> io::Result<()> {
     if total <= out.len() {
-        words(&out[..total]);
+        words(rt, &out[..total])?;
     }
+    Ok(())
 }
 
 // P: members 100 and 200 with capacity 1, edge 7 from 100 to 200, delay 10.
@@ -273,46 +274,53 @@ fn largest() -> [u8; MOST] {
 }
 
 // A case: its name, what is answered for the first `given` bytes of a plan and `room` bytes of output, and what is written.
-fn told(name: &[u8], plan: [u8; MOST], given: usize, room: usize) -> Written
+fn told(
+    rt: &impl Print,
+    name: &str,
+    plan: [u8; MOST],
+    given: usize,
+    room: usize,
+) -> io::Result<Written>
     requires { (given ≤ 8728) × (room ≤ 32000) }
 {
-    text(name);
-    text(b"\n");
+    text(rt, name)?;
+    text(rt, "\n")?;
     let p = plan;
     let mut out = fresh();
     let c = compile(&p, given, &mut out, room);
-    answer(c);
-    bytes(&out, c.total);
-    Written {
+    answer(rt, c)?;
+    bytes(rt, &out, c.total)?;
+    Ok(Written {
         out,
         total: c.total,
-    }
+    })
 }
 
 // The same, with every u32 of the image.
-fn shown(name: &[u8], plan: [u8; MOST], given: usize, room: usize)
+fn shown(rt: &impl Print, name: &str, plan: [u8; MOST], given: usize, room: usize) -> io::Result<()>
     requires { (given ≤ 8728) × (room ≤ 32000) }
 {
-    let w = told(name, plan, given, room);
+    let w = told(rt, name, plan, given, room)?;
     let out = w.out;
-    image(&out, w.total);
+    image(rt, &out, w.total)
 }
 
-fn main() {
+fn main(rt: HostRuntime) -> io::Result<()> {
     let p = plan_p();
-    shown(b"P", p, 88, 188);
-    told(b"P, one byte short", p, 88, 187);
-    told(b"P, longer", p, 88, 200);
-    told(b"P, no output", p, 88, 0);
-    told(b"P without its last byte", p, 87, 188);
-    shown(b"no members", header(0, 0), 24, 48);
-    told(b"no members, one byte short", header(0, 0), 24, 47);
-    shown(b"direct 9, path 2 and 3", detour(), 168, 348);
-    told(b"2^62 twice", chain(4611686018427387904), 136, 32000);
-    told(b"2^63 twice", chain(9223372036854775808), 136, 32000);
-    told(b"zero self-loop", self_loop(), 72, 32000);
+    shown(&rt, "P", p, 88, 188)?;
+    told(&rt, "P, one byte short", p, 88, 187)?;
+    told(&rt, "P, longer", p, 88, 200)?;
+    told(&rt, "P, no output", p, 88, 0)?;
+    told(&rt, "P without its last byte", p, 87, 188)?;
+    shown(&rt, "no members", header(0, 0), 24, 48)?;
+    told(&rt, "no members, one byte short", header(0, 0), 24, 47)?;
+    shown(&rt, "direct 9, path 2 and 3", detour(), 168, 348)?;
+    told(&rt, "2^62 twice", chain(4611686018427387904), 136, 32000)?;
+    told(&rt, "2^63 twice", chain(9223372036854775808), 136, 32000)?;
+    told(&rt, "zero self-loop", self_loop(), 72, 32000)?;
     let m = largest();
-    told(b"largest", m, MOST, 31920);
-    told(b"largest, one byte short", m, MOST, 31919);
-    told(b"largest, longer", m, MOST, 32000);
+    told(&rt, "largest", m, MOST, 31920)?;
+    told(&rt, "largest, one byte short", m, MOST, 31919)?;
+    told(&rt, "largest, longer", m, MOST, 32000)?;
+    Ok(())
 }

@@ -3,8 +3,8 @@
 
 ghost use Rattle.std.specs.Prelude.{◌≤◌};
 
-use libc::STDOUT_FILENO;
 use plans::Plan;
+use std::io;
 
 // The most that plan bytes can be: 24 + 16 * 32 + 32 * 256.
 const MOST: usize = 8728;
@@ -70,13 +70,13 @@ fn edge(
 }
 
 // A gap and a number.
-fn item(x: u64) {
-    io::write_all(STDOUT_FILENO, b" ");
-    io::print_decimal(STDOUT_FILENO, x);
+fn item(rt: &impl Print, x: u64) -> io::Result<()> {
+    print!(rt; " ")?;
+    print!(rt; "{x}")
 }
 
-fn end() {
-    io::write_all(STDOUT_FILENO, b"\n");
+fn end(rt: &impl Print) -> io::Result<()> {
+    print!(rt; "\n")
 }
 
 fn wide(x: u8) -> u64 {
@@ -84,95 +84,98 @@ fn wide(x: u8) -> u64 {
 }
 
 // The first n numbers.
-fn numbers(xs: &[u64], n: usize) {
+fn numbers(rt: &impl Print, xs: &[u64], n: usize) -> io::Result<()> {
     let mut i: usize = 0;
     while i < xs.len() {
         if i < n {
-            item(xs[i]);
+            item(rt, xs[i])?;
         }
         i += 1;
     }
+    Ok(())
 }
 
 // The first n positions.
-fn positions(xs: &[u8], n: usize) {
+fn positions(rt: &impl Print, xs: &[u8], n: usize) -> io::Result<()> {
     let mut i: usize = 0;
     while i < xs.len() {
         if i < n {
-            item(wide(xs[i]));
+            item(rt, wide(xs[i]))?;
         }
         i += 1;
     }
+    Ok(())
 }
 
 // A line: a word and the first n numbers.
-fn line(word: &[u8], xs: &[u64], n: usize) {
-    io::write_all(STDOUT_FILENO, word);
-    numbers(xs, n);
-    end();
+fn line(rt: &impl Print, word: &str, xs: &[u64], n: usize) -> io::Result<()> {
+    print!(rt; "{word}")?;
+    numbers(rt, xs, n)?;
+    end(rt)
 }
 
-fn show_members(p: Plan) {
+fn show_members(rt: &impl Print, p: Plan) -> io::Result<()> {
     let n = p.members;
     let ids = p.ids;
     let capacities = p.capacities;
-    line(b"  members", &ids, n);
-    line(b"  capacities", &capacities, n);
+    line(rt, "  members", &ids, n)?;
+    line(rt, "  capacities", &capacities, n)
 }
 
-fn show_routes(p: Plan) {
+fn show_routes(rt: &impl Print, p: Plan) -> io::Result<()> {
     let e = p.edges;
     let routes = p.routes;
     let delays = p.delays;
-    line(b"  edges", &routes, e);
-    line(b"  delays", &delays, e);
+    line(rt, "  edges", &routes, e)?;
+    line(rt, "  delays", &delays, e)
 }
 
-fn show_sources(p: Plan) {
+fn show_sources(rt: &impl Print, p: Plan) -> io::Result<()> {
     let e = p.edges;
     let sources = p.sources;
-    io::write_all(STDOUT_FILENO, b"  sources");
-    positions(&sources, e);
-    end();
+    print!(rt; "  sources")?;
+    positions(rt, &sources, e)?;
+    end(rt)
 }
 
-fn show_targets(p: Plan) {
+fn show_targets(rt: &impl Print, p: Plan) -> io::Result<()> {
     let e = p.edges;
     let targets = p.targets;
-    io::write_all(STDOUT_FILENO, b"  targets");
-    positions(&targets, e);
-    end();
+    print!(rt; "  targets")?;
+    positions(rt, &targets, e)?;
+    end(rt)
 }
 
 // What is answered for plan bytes.
-fn answer(bytes: &[u8]) {
+fn answer(rt: &impl Print, bytes: &[u8]) -> io::Result<()> {
     let r = plans::read(bytes);
     let f = r.refusal;
     if f.number == 0 {
         let p = r.plan;
-        show_members(p);
-        show_routes(p);
-        show_sources(p);
-        show_targets(p);
-        return;
+        show_members(rt, p)?;
+        show_routes(rt, p)?;
+        show_sources(rt, p)?;
+        show_targets(rt, p)?;
+        return Ok(());
     }
     let said = [f.number, f.mask, f.first, f.second];
-    line(b"  refused", &said, 4);
+    line(rt, "  refused", &said, 4)
 }
 
 // What is answered for the first `length` of the bytes.
-fn first(bytes: &[u8], length: usize) {
+fn first(rt: &impl Print, bytes: &[u8], length: usize) -> io::Result<()> {
     if length <= bytes.len() {
-        answer(&bytes[..length]);
+        answer(rt, &bytes[..length])?;
     }
+    Ok(())
 }
 
 // A case: its name, and what is answered for the first `length` of the bytes.
-fn show(name: &[u8], b: [u8; MOST], length: usize) {
-    io::write_all(STDOUT_FILENO, name);
-    end();
+fn show(rt: &impl Print, name: &str, b: [u8; MOST], length: usize) -> io::Result<()> {
+    print!(rt; "{name}")?;
+    end(rt)?;
     let c = b;
-    first(&c, length);
+    first(rt, &c, length)
 }
 
 // Members 100 and 200, edge 7 from the first to the second and edge 8 back: 120 bytes.
@@ -267,28 +270,32 @@ fn ranked(n: u32, e: u32, first: usize, step: usize) -> [u8; MOST]
 }
 
 // The plans that are taken.
-fn taken() {
-    show(b"the whole case P", case_p(), 88);
-    show(b"no members, no edges", header([0u8; MOST], 0, 0), 24);
-    show(b"two members, no edges", header(two(), 2, 0), 56);
-    show(b"capacity 32", put32(two(), 32, 32), 120);
+fn taken(rt: &impl Print) -> io::Result<()> {
+    show(rt, "the whole case P", case_p(), 88)?;
+    show(rt, "no members, no edges", header([0u8; MOST], 0, 0), 24)?;
+    show(rt, "two members, no edges", header(two(), 2, 0), 56)?;
+    show(rt, "capacity 32", put32(two(), 32, 32), 120)?;
     show(
-        b"capacity 0, delay 0",
+        rt,
+        "capacity 0, delay 0",
         put64(put32(two(), 32, 0), 80, 0),
         120,
-    );
+    )?;
     show(
-        b"an edge from a member to itself",
+        rt,
+        "an edge from a member to itself",
         put64(two(), 72, 100),
         120,
-    );
+    )?;
     show(
-        b"parallel edges",
+        rt,
+        "parallel edges",
         put64(put64(two(), 96, 100), 104, 200),
         120,
-    );
+    )?;
     show(
-        b"ids 0 and 2^64-1, members",
+        rt,
+        "ids 0 and 2^64-1, members",
         put64(
             put64(
                 put64(
@@ -307,169 +314,197 @@ fn taken() {
             18446744073709551615,
         ),
         120,
-    );
+    )?;
     show(
-        b"ids 2^64-1 and 0, edges; delay 2^64-1",
+        rt,
+        "ids 2^64-1 and 0, edges; delay 2^64-1",
         put64(
             put64(put64(two(), 56, 18446744073709551615), 88, 0),
             80,
             18446744073709551615,
         ),
         120,
-    );
+    )?;
     show(
-        b"a member and an edge of one id",
+        rt,
+        "a member and an edge of one id",
         put64(two(), 56, 100),
         120,
-    );
+    )
 }
 
 // The same rows in other orders.
-fn orders() {
-    show(b"three rows, order 0 1 2", ranked(3, 3, 0, 1), 168);
-    show(b"three rows, order 1 2 0", ranked(3, 3, 1, 1), 168);
-    show(b"three rows, order 2 0 1", ranked(3, 3, 2, 1), 168);
-    show(b"three rows, order 0 2 1", ranked(3, 3, 0, 2), 168);
-    show(b"three rows, order 1 0 2", ranked(3, 3, 1, 2), 168);
-    show(b"three rows, order 2 1 0", ranked(3, 3, 2, 2), 168);
+fn orders(rt: &impl Print) -> io::Result<()> {
+    show(rt, "three rows, order 0 1 2", ranked(3, 3, 0, 1), 168)?;
+    show(rt, "three rows, order 1 2 0", ranked(3, 3, 1, 1), 168)?;
+    show(rt, "three rows, order 2 0 1", ranked(3, 3, 2, 1), 168)?;
+    show(rt, "three rows, order 0 2 1", ranked(3, 3, 0, 2), 168)?;
+    show(rt, "three rows, order 1 0 2", ranked(3, 3, 1, 2), 168)?;
+    show(rt, "three rows, order 2 1 0", ranked(3, 3, 2, 2), 168)?;
     show(
-        b"32 members and 256 edges, ascending",
+        rt,
+        "32 members and 256 edges, ascending",
         ranked(32, 256, 0, 1),
         8728,
-    );
+    )?;
     show(
-        b"32 members and 256 edges, steps of 11 from 5",
+        rt,
+        "32 members and 256 edges, steps of 11 from 5",
         ranked(32, 256, 5, 11),
         8728,
-    );
+    )
 }
 
 // Each refusal met alone.
-fn alone() {
-    show(b"1: no bytes", two(), 0);
-    show(b"1: 23 bytes", two(), 23);
-    show(b"1: version 0", put32(two(), 0, 0), 120);
-    show(b"1: version 2", put32(two(), 0, 2), 120);
-    show(b"2: 33 members", header(two(), 33, 0), 552);
-    show(b"2: 2^32-1 members", put32(two(), 4, 4294967295), 120);
-    show(b"3: 257 edges", header(two(), 0, 257), 8248);
-    show(b"3: 2^32-1 edges", put32(two(), 8, 4294967295), 120);
-    show(b"1: member offset 25", put32(two(), 12, 25), 120);
-    show(b"1: edge offset 72", put32(two(), 16, 72), 120);
-    show(b"1: total 121", put32(two(), 20, 121), 120);
-    show(b"1: a byte short", two(), 119);
-    show(b"1: a byte over", two(), 121);
-    show(b"1: zero field of the first row", put32(two(), 36, 1), 120);
+fn alone(rt: &impl Print) -> io::Result<()> {
+    show(rt, "1: no bytes", two(), 0)?;
+    show(rt, "1: 23 bytes", two(), 23)?;
+    show(rt, "1: version 0", put32(two(), 0, 0), 120)?;
+    show(rt, "1: version 2", put32(two(), 0, 2), 120)?;
+    show(rt, "2: 33 members", header(two(), 33, 0), 552)?;
+    show(rt, "2: 2^32-1 members", put32(two(), 4, 4294967295), 120)?;
+    show(rt, "3: 257 edges", header(two(), 0, 257), 8248)?;
+    show(rt, "3: 2^32-1 edges", put32(two(), 8, 4294967295), 120)?;
+    show(rt, "1: member offset 25", put32(two(), 12, 25), 120)?;
+    show(rt, "1: edge offset 72", put32(two(), 16, 72), 120)?;
+    show(rt, "1: total 121", put32(two(), 20, 121), 120)?;
+    show(rt, "1: a byte short", two(), 119)?;
+    show(rt, "1: a byte over", two(), 121)?;
     show(
-        b"1: zero field of the second row",
+        rt,
+        "1: zero field of the first row",
+        put32(two(), 36, 1),
+        120,
+    )?;
+    show(
+        rt,
+        "1: zero field of the second row",
         put32(two(), 52, 2147483648),
         120,
-    );
-    show(b"4: capacity 33", put32(two(), 48, 33), 120);
-    show(b"5: the second member again", put64(two(), 40, 100), 120);
+    )?;
+    show(rt, "4: capacity 33", put32(two(), 48, 33), 120)?;
+    show(rt, "5: the second member again", put64(two(), 40, 100), 120)?;
     show(
-        b"5: the last of 32 is the first",
+        rt,
+        "5: the last of 32 is the first",
         put64(ranked(32, 256, 0, 1), 520, 100),
         8728,
-    );
-    show(b"6: the second edge again", put64(two(), 88, 7), 120);
+    )?;
+    show(rt, "6: the second edge again", put64(two(), 88, 7), 120)?;
     show(
-        b"6: the last of 256 is the first",
+        rt,
+        "6: the last of 256 is the first",
         put64(ranked(32, 256, 7, 1), 8696, 21),
         8728,
-    );
-    show(b"7: source", put64(two(), 64, 300), 120);
-    show(b"7: target", put64(two(), 72, 400), 120);
+    )?;
+    show(rt, "7: source", put64(two(), 64, 300), 120)?;
+    show(rt, "7: target", put64(two(), 72, 400), 120)?;
     show(
-        b"7: target of the last of 256",
+        rt,
+        "7: target of the last of 256",
         put64(ranked(32, 256, 0, 1), 8712, 99),
         8728,
-    );
-    show(b"7: an edge without members", header(two(), 0, 1), 56);
+    )?;
+    show(rt, "7: an edge without members", header(two(), 0, 1), 56)
 }
 
 // Neighbouring refusals together: the earlier of the table is answered.
-fn together() {
+fn together(rt: &impl Print) -> io::Result<()> {
     show(
-        b"1 before 2: version 2, 33 members",
+        rt,
+        "1 before 2: version 2, 33 members",
         put32(header(two(), 33, 2), 0, 2),
         616,
-    );
+    )?;
     show(
-        b"2 before 3: 33 members, 257 edges",
+        rt,
+        "2 before 3: 33 members, 257 edges",
         header(two(), 33, 257),
         120,
-    );
+    )?;
     show(
-        b"2 before 1: 33 members, offsets wrong",
+        rt,
+        "2 before 1: 33 members, offsets wrong",
         put32(two(), 4, 33),
         120,
-    );
+    )?;
     show(
-        b"3 before 1: 257 edges, offsets wrong",
+        rt,
+        "3 before 1: 257 edges, offsets wrong",
         put32(two(), 8, 257),
         120,
-    );
+    )?;
     show(
-        b"1 before 4: total wrong, capacity 33",
+        rt,
+        "1 before 4: total wrong, capacity 33",
         put32(put32(two(), 20, 121), 32, 33),
         120,
-    );
+    )?;
     show(
-        b"1 before 4: zero field and capacity of one row",
+        rt,
+        "1 before 4: zero field and capacity of one row",
         put32(put32(two(), 36, 1), 32, 33),
         120,
-    );
+    )?;
     show(
-        b"4 before 1: capacity of the first row, zero field of the second",
+        rt,
+        "4 before 1: capacity of the first row, zero field of the second",
         put32(put32(two(), 32, 33), 52, 1),
         120,
-    );
+    )?;
     show(
-        b"1 before 5: zero field of the second row, its id again",
+        rt,
+        "1 before 5: zero field of the second row, its id again",
         put32(put64(two(), 40, 100), 52, 1),
         120,
-    );
+    )?;
     show(
-        b"4 before 5: capacity of the second row, its id again",
+        rt,
+        "4 before 5: capacity of the second row, its id again",
         put32(put64(two(), 40, 100), 48, 33),
         120,
-    );
+    )?;
     show(
-        b"5 before 6: a member and an edge again",
+        rt,
+        "5 before 6: a member and an edge again",
         put64(put64(two(), 40, 100), 88, 7),
         120,
-    );
+    )?;
     show(
-        b"5 before 7: a member again, source undeclared",
+        rt,
+        "5 before 7: a member again, source undeclared",
         put64(put64(two(), 40, 100), 64, 300),
         120,
-    );
+    )?;
     show(
-        b"6 before 7: one edge again and its source undeclared",
+        rt,
+        "6 before 7: one edge again and its source undeclared",
         put64(put64(two(), 88, 7), 96, 300),
         120,
-    );
+    )?;
     show(
-        b"7 before 6: first edge's target undeclared, second edge again",
+        rt,
+        "7 before 6: first edge's target undeclared, second edge again",
         put64(put64(two(), 88, 7), 72, 400),
         120,
-    );
+    )?;
     show(
-        b"7, source before target",
+        rt,
+        "7, source before target",
         put64(put64(two(), 64, 300), 72, 400),
         120,
-    );
+    )?;
     show(
-        b"7, first edge's target before second edge's source",
+        rt,
+        "7, first edge's target before second edge's source",
         put64(put64(two(), 72, 400), 96, 300),
         120,
-    );
+    )
 }
 
-fn main() {
-    taken();
-    orders();
-    alone();
-    together();
+fn main(rt: HostRuntime) -> io::Result<()> {
+    taken(&rt)?;
+    orders(&rt)?;
+    alone(&rt)?;
+    together(&rt)
 }

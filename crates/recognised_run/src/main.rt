@@ -1,52 +1,72 @@
 // Judges the byte strings on standard input, each after its length in four bytes: 0, or the number of its refusal.
 #![tactic(auto)]
 
-ghost use Rattle.std.specs.Prelude.{◌<◌, ◌≤◌, length};
+ghost use Rattle.std.specs.Prelude.{◌<◌, ◌≤◌, length, IfOk};
 
-fn show(refusal: u64) {
+use std::io;
+use std::io::Read;
+
+fn show(rt: &impl Print, refusal: u64) -> io::Result<()> {
     if refusal == 0 {
-        io::write_all(libc::STDOUT_FILENO, b"0\n");
+        print!(rt; "0\n")?;
     } else {
         if refusal == 11 {
-            io::write_all(libc::STDOUT_FILENO, b"11\n");
+            print!(rt; "11\n")?;
         } else {
-            io::write_all(libc::STDOUT_FILENO, b"12\n");
+            print!(rt; "12\n")?;
         }
     }
+    Ok(())
 }
 
 // Judges the string at a place, and answers where the next one starts, the end if there is none.
-fn next(bytes: &[u8], at: usize) -> usize
+fn next(rt: &impl Print, bytes: &[u8], at: usize) -> io::Result<usize>
     requires { at < length bytes.now }
-    ensures { (at < result) × (result ≤ length bytes.now) }
+    ensures { IfOk result (λ next. (at < next) × (next ≤ length bytes.now)) }
 {
     let n = bytes.len();
     if n < 4 {
-        return n;
+        return Ok(n);
     }
     if n - 4 < at {
-        return n;
+        return Ok(n);
     }
     let long = rows::number(bytes, at);
     let from = at + 4;
     if n - from < long {
-        return n;
+        return Ok(n);
     }
     let to = from + long;
-    show(recognised::recognise(&bytes[from..to]));
-    to
+    show(rt, recognised::recognise(&bytes[from..to]))?;
+    Ok(to)
 }
 
 // Judges all of them.
-fn all(bytes: &[u8]) {
+fn all(rt: &impl Print, bytes: &[u8]) -> io::Result<()> {
     let mut at: usize = 0;
     while at < bytes.len() {
-        at = next(bytes, at);
+        at = next(rt, bytes, at)?;
     }
+    Ok(())
 }
 
-fn main() {
+// Reads until buf is full, the input ends or a read fails; how many bytes came.
+fn read_full(input: &mut impl Read, buf: &mut [u8]) -> usize
+    ensures { result ≤ length buf.new }
+{
+    let mut done: usize = 0;
+    while done < buf.len() {
+        let n = input.read(&mut buf[done..]).unwrap_or(0);
+        if n == 0 {
+            return done;
+        }
+        done += n;
+    }
+    done
+}
+
+fn main(rt: HostRuntime) -> io::Result<()> {
     let mut bytes = [0u8; 262144];
-    let n = io::read_full(libc::STDIN_FILENO, &mut bytes);
-    all(&bytes[..n]);
+    let n = read_full(&mut rt.reader(), &mut bytes);
+    all(&rt, &bytes[..n])
 }

@@ -5,6 +5,7 @@
 ghost use Rattle.std.specs.Prelude.{◌≡◌, ◌+◌, ◌*◌, ◌<◌, ◌≤◌, length};
 
 use routes::{Found, Walk};
+use std::io;
 
 // Room for 32 members and 32 edges.
 const ROOM: usize = 1560;
@@ -14,16 +15,21 @@ const PLACES: usize = 32;
 
 const EDGES: usize = 256;
 
-fn text(bytes: &[u8]) {
-    io::write_all(libc::STDOUT_FILENO, bytes);
+fn text(rt: &impl Print, words: &str) -> io::Result<()> {
+    print!(rt; "{words}")
 }
 
-fn number(n: u64) {
-    io::print_decimal(libc::STDOUT_FILENO, n);
+fn number(rt: &impl Print, n: u64) -> io::Result<()> {
+    print!(rt; "{n}")
 }
 
-fn yes(b: bool) {
-    if b { text(b" yes") } else { text(b" no") }
+fn yes(rt: &impl Print, b: bool) -> io::Result<()> {
+    if b {
+        text(rt, " yes")?
+    } else {
+        text(rt, " no")?
+    }
+    Ok(())
 }
 
 // The header of a plan of n members and e edges.
@@ -101,40 +107,41 @@ fn shorter(w: Walk) -> Walk {
 }
 
 // The positions that a walk lists.
-fn show(w: Walk) {
+fn show(rt: &impl Print, w: Walk) -> io::Result<()> {
     let count = w.count;
     let edges = w.edges;
     let mut i: usize = 0;
     while i < PLACES {
         if i < count {
-            text(b" ");
-            number(edges[i]);
+            text(rt, " ")?;
+            number(rt, edges[i])?;
         }
         i += 1;
     }
+    Ok(())
 }
 
 // The witness of a plan, and whether the check takes it; then it with the first position changed to `other`, with a step
 // left out, and with the first position changed to `late`, an edge with a delay or none of the plan's.
-fn show_witness(name: &[u8], plan: &[u8], other: u64, late: u64) {
+fn show_witness(rt: &impl Print, name: &str, plan: &[u8], other: u64, late: u64) -> io::Result<()> {
     let found = routes::witness(plan);
-    text(name);
-    text(b": refusal ");
-    number(found.refusal.number);
-    text(b" count ");
-    number(found.count as u64);
-    text(b" edges");
+    text(rt, name)?;
+    text(rt, ": refusal ")?;
+    number(rt, found.refusal.number)?;
+    text(rt, " count ")?;
+    number(rt, found.count as u64)?;
+    text(rt, " edges")?;
     let walk = walk_of(found);
-    show(walk);
-    text(b"; taken");
-    yes(routes::check_witness(plan, walk));
-    text(b", changed");
-    yes(routes::check_witness(plan, changed(walk, 0, other)));
-    text(b", a step less");
-    yes(routes::check_witness(plan, shorter(walk)));
-    text(b", delayed");
-    yes(routes::check_witness(plan, changed(walk, 0, late)));
-    text(b"\n");
+    show(rt, walk)?;
+    text(rt, "; taken")?;
+    yes(rt, routes::check_witness(plan, walk))?;
+    text(rt, ", changed")?;
+    yes(rt, routes::check_witness(plan, changed(walk, 0, other)))?;
+    text(rt, ", a step less")?;
+    yes(rt, routes::check_witness(plan, shorter(walk)))?;
+    text(rt, ", delayed")?;
+    yes(rt, routes::check_witness(plan, changed(walk, 0, late)))?;
+    text(rt, "\n")
 }
 
 // The delays of the edges that a walk lists, together.
@@ -159,20 +166,20 @@ fn sum(plan: &[u8], w: Walk) -> u64 {
 }
 
 // A path, and the sum of its delays.
-fn show_path(plan: &[u8], from: u64, to: u64) {
+fn show_path(rt: &impl Print, plan: &[u8], from: u64, to: u64) -> io::Result<()> {
     let found = routes::path(plan, from, to);
-    text(b"path ");
-    number(from);
-    text(b" to ");
-    number(to);
-    text(b": refusal ");
-    number(found.refusal.number);
-    text(b" edges");
+    text(rt, "path ")?;
+    number(rt, from)?;
+    text(rt, " to ")?;
+    number(rt, to)?;
+    text(rt, ": refusal ")?;
+    number(rt, found.refusal.number)?;
+    text(rt, " edges")?;
     let walk = walk_of(found);
-    show(walk);
-    text(b" sum ");
-    number(sum(plan, walk));
-    text(b"\n");
+    show(rt, walk)?;
+    text(rt, " sum ")?;
+    number(rt, sum(plan, walk))?;
+    text(rt, "\n")
 }
 
 // A member that has an edge without delay to itself.
@@ -232,57 +239,57 @@ fn clear(b: &mut [u8])
     edge(b, 5, 4, 3, 0, 1);
 }
 
-fn small_witnesses(b: &mut [u8])
+fn small_witnesses(rt: &impl Print, b: &mut [u8]) -> io::Result<()>
     requires { length b.old ≡ 1560 }
 {
     itself(b);
-    show_witness(b"itself", &b[0..120], 0, 0);
+    show_witness(rt, "itself", &b[0..120], 0, 0)?;
     pair(b);
-    show_witness(b"pair", &b[0..200], 1, 2);
+    show_witness(rt, "pair", &b[0..200], 1, 2)?;
     tail(b);
-    show_witness(b"tail", &b[0..248], 0, 2);
+    show_witness(rt, "tail", &b[0..248], 0, 2)
 }
 
-fn other_witnesses(b: &mut [u8])
+fn other_witnesses(rt: &impl Print, b: &mut [u8]) -> io::Result<()>
     requires { length b.old ≡ 1560 }
 {
     ring(b);
-    show_witness(b"ring", &b[0..1560], 5, 32);
+    show_witness(rt, "ring", &b[0..1560], 5, 32)?;
     clear(b);
-    show_witness(b"clear", &b[0..264], 1, 2);
-    show_witness(b"cut short", &b[0..263], 1, 2);
+    show_witness(rt, "clear", &b[0..264], 1, 2)?;
+    show_witness(rt, "cut short", &b[0..263], 1, 2)
 }
 
-fn clear_paths(b: &mut [u8])
+fn clear_paths(rt: &impl Print, b: &mut [u8]) -> io::Result<()>
     requires { length b.old ≡ 1560 }
 {
     clear(b);
     let plan = &b[0..264];
-    show_path(plan, 0, 2);
-    show_path(plan, 0, 3);
-    show_path(plan, 0, 0);
-    show_path(plan, 1, 1);
-    show_path(plan, 3, 2);
-    show_path(plan, 0, 4);
-    show_path(plan, 5, 0);
-    show_path(plan, 0, 18446744073709551615);
+    show_path(rt, plan, 0, 2)?;
+    show_path(rt, plan, 0, 3)?;
+    show_path(rt, plan, 0, 0)?;
+    show_path(rt, plan, 1, 1)?;
+    show_path(rt, plan, 3, 2)?;
+    show_path(rt, plan, 0, 4)?;
+    show_path(rt, plan, 5, 0)?;
+    show_path(rt, plan, 0, 18446744073709551615)
 }
 
-fn ring_paths(b: &mut [u8])
+fn ring_paths(rt: &impl Print, b: &mut [u8]) -> io::Result<()>
     requires { length b.old ≡ 1560 }
 {
     ring(b);
-    show_path(b, 0, 1);
+    show_path(rt, b, 0, 1)?;
     edge(b, 32, 31, 31, 0, 6);
-    show_path(b, 0, 31);
-    show_path(b, 4, 4);
-    show_path(b, 9, 8);
+    show_path(rt, b, 0, 31)?;
+    show_path(rt, b, 4, 4)?;
+    show_path(rt, b, 9, 8)
 }
 
-fn main() {
+fn main(rt: HostRuntime) -> io::Result<()> {
     let mut b = [0u8; ROOM];
-    small_witnesses(&mut b);
-    other_witnesses(&mut b);
-    clear_paths(&mut b);
-    ring_paths(&mut b);
+    small_witnesses(&rt, &mut b)?;
+    other_witnesses(&rt, &mut b)?;
+    clear_paths(&rt, &mut b)?;
+    ring_paths(&rt, &mut b)
 }

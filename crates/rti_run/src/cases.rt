@@ -4,6 +4,7 @@ use crate::desk::{
     PUBLISH, REST, START, STOP, TAKE,
 };
 use crate::plan::{Image, on};
+use std::io;
 
 // 01's whole case on P, identity 5.
 const WHOLE: [[u64; 7]; 14] = [
@@ -23,8 +24,8 @@ const WHOLE: [[u64; 7]; 14] = [
     [1, STOP, 0, NONE, 0, 0, 0],
 ];
 
-pub fn whole(i: Image, d: Desk) -> Desk {
-    on(b"The whole case on P", i, d, &WHOLE)
+pub fn whole(rt: &impl Print, i: Image, d: Desk) -> io::Result<Desk> {
+    on(rt, "The whole case on P", i, d, &WHOLE)
 }
 
 // Both confirm and both stop, in every order.
@@ -63,8 +64,8 @@ const ORDERS: [[u64; 7]; 28] = [
     [0, STOP, 0, NONE, 0, 0, 0],
 ];
 
-pub fn orders(i: Image, d: Desk) -> Desk {
-    on(b"Confirmed and stopped in every order", i, d, &ORDERS)
+pub fn orders(rt: &impl Print, i: Image, d: Desk) -> io::Result<Desk> {
+    on(rt, "Confirmed and stopped in every order", i, d, &ORDERS)
 }
 
 // Idle at revision 1, and again at 2.
@@ -102,8 +103,8 @@ const AGAIN: [[u64; 7]; 27] = [
     [1, CONFIRM, 1, NONE, 0, 0, 0],
 ];
 
-pub fn again(i: Image, d: Desk) -> Desk {
-    on(b"Idle again", i, d, &AGAIN)
+pub fn again(rt: &impl Print, i: Image, d: Desk) -> io::Result<Desk> {
+    on(rt, "Idle again", i, d, &AGAIN)
 }
 
 // A tag in transit keeps both from idle until it is completed; then Complete while idle: at completed, and past it.
@@ -126,8 +127,8 @@ const LATE: [[u64; 7]; 16] = [
     [1, STOP, 0, NONE, 0, 0, 0],
 ];
 
-pub fn late(i: Image, d: Desk) -> Desk {
-    on(b"Complete while idle", i, d, &LATE)
+pub fn late(rt: &impl Print, i: Image, d: Desk) -> io::Result<Desk> {
+    on(rt, "Complete while idle", i, d, &LATE)
 }
 
 // Ended sessions: Failed to the member word that is given; cause and code stay.
@@ -155,8 +156,8 @@ const ENDED: [[u64; 7]; 18] = [
     [0, STOP, 0, NONE, 0, 0, 0],
 ];
 
-pub fn ended(i: Image, d: Desk) -> Desk {
-    on(b"Ended sessions", i, d, &ENDED)
+pub fn ended(rt: &impl Print, i: Image, d: Desk) -> io::Result<Desk> {
+    on(rt, "Ended sessions", i, d, &ENDED)
 }
 
 // A code is given only with cause 20, whatever a state holds.
@@ -181,8 +182,8 @@ const CODES: [[u64; 7]; 17] = [
     [0, STOP, 0, NONE, 0, 0, 0],
 ];
 
-pub fn codes(i: Image, d: Desk) -> Desk {
-    on(b"Codes", i, d, &CODES)
+pub fn codes(rt: &impl Print, i: Image, d: Desk) -> io::Result<Desk> {
+    on(rt, "Codes", i, d, &CODES)
 }
 
 // A plan without members is finished from the start.
@@ -214,6 +215,6 @@ const EMPTY: [[u64; 7]; 23] = [
     [0, TAKE, 40, 0, 0, 0, 0],
 ];
 
-pub fn empty(i: Image, d: Desk) -> Desk {
-    on(b"No members", i, d, &EMPTY)
+pub fn empty(rt: &impl Print, i: Image, d: Desk) -> io::Result<Desk> {
+    on(rt, "No members", i, d, &EMPTY)
 }

@@ -4,6 +4,7 @@ use crate::desk::{
     PAYLOAD, PUBLISH, REST, START, STOP,
 };
 use crate::plan::{Image, on};
+use std::io;
 
 // 20, from any member, and 21.
 const ABORTS: [[u64; 7]; 26] = [
@@ -35,8 +36,8 @@ const ABORTS: [[u64; 7]; 26] = [
     [18446744073709551615, STOP, 0, NONE, 0, 0, 0],
 ];
 
-pub fn aborts(i: Image, d: Desk) -> Desk {
-    on(b"20 and 21", i, d, &ABORTS)
+pub fn aborts(rt: &impl Print, i: Image, d: Desk) -> io::Result<Desk> {
+    on(rt, "20 and 21", i, d, &ABORTS)
 }
 
 // 22: another identity; Hello again while waiting, running, idle and stopped.
@@ -55,8 +56,8 @@ const HELLOS: [[u64; 7]; 12] = [
     [0, HELLO, 5, NONE, 0, 0, 0],
 ];
 
-pub fn hellos(i: Image, d: Desk) -> Desk {
-    on(b"22", i, d, &HELLOS)
+pub fn hellos(rt: &impl Print, i: Image, d: Desk) -> io::Result<Desk> {
+    on(rt, "22", i, d, &HELLOS)
 }
 
 // 23: a member that has not joined, or waits for the other.
@@ -98,8 +99,8 @@ const ABSENT: [[u64; 7]; 35] = [
     [1, STOP, 0, NONE, 0, 0, 0],
 ];
 
-pub fn absent(i: Image, d: Desk) -> Desk {
-    on(b"23", i, d, &ABSENT)
+pub fn absent(rt: &impl Print, i: Image, d: Desk) -> io::Result<Desk> {
+    on(rt, "23", i, d, &ABSENT)
 }
 
 // 23: a member that has stopped.
@@ -125,8 +126,8 @@ const HALTED: [[u64; 7]; 19] = [
     [0, CONFIRM, 2, NONE, 0, 0, 0],
 ];
 
-pub fn halted(i: Image, d: Desk) -> Desk {
-    on(b"23, stopped", i, d, &HALTED)
+pub fn halted(rt: &impl Print, i: Image, d: Desk) -> io::Result<Desk> {
+    on(rt, "23, stopped", i, d, &HALTED)
 }
 
 // 24: an event not finite, an older revision, another event at the same, an event not after completed, an event while idle.
@@ -156,8 +157,8 @@ const PUBLISHED: [[u64; 7]; 23] = [
     [0, PUBLISH, 2, FINITE, 5, 0, 0],
 ];
 
-pub fn published(i: Image, d: Desk) -> Desk {
-    on(b"24", i, d, &PUBLISHED)
+pub fn published(rt: &impl Print, i: Image, d: Desk) -> io::Result<Desk> {
+    on(rt, "24", i, d, &PUBLISHED)
 }
 
 // 25: not finite, nothing granted, above granted, which is (14, M), below completed.
@@ -182,8 +183,8 @@ const COMPLETED: [[u64; 7]; 18] = [
     [0, COMPLETE, 0, FINITE, 4, 18446744073709551615, 0],
 ];
 
-pub fn completed(i: Image, d: Desk) -> Desk {
-    on(b"25", i, d, &COMPLETED)
+pub fn completed(rt: &impl Print, i: Image, d: Desk) -> io::Result<Desk> {
+    on(rt, "25", i, d, &COMPLETED)
 }
 
 // 26 and 27: a route that the plan lacks, and another member's.
@@ -209,8 +210,8 @@ const ROUTES: [[u64; 7]; 19] = [
     [1, PAYLOAD, 0, NEVER, 0, 0, 77],
 ];
 
-pub fn routes(i: Image, d: Desk) -> Desk {
-    on(b"26 and 27", i, d, &ROUTES)
+pub fn routes(rt: &impl Print, i: Image, d: Desk) -> io::Result<Desk> {
+    on(rt, "26 and 27", i, d, &ROUTES)
 }
 
 // 28: not finite, below ZERO delayed, below completed delayed, a microstep beside a delay, nothing granted.
@@ -236,8 +237,8 @@ const PAYLOADS: [[u64; 7]; 19] = [
     [0, PAYLOAD, 0, FINITE, 10, 0, 77],
 ];
 
-pub fn payloads(i: Image, d: Desk) -> Desk {
-    on(b"28", i, d, &PAYLOADS)
+pub fn payloads(rt: &impl Print, i: Image, d: Desk) -> io::Result<Desk> {
+    on(rt, "28", i, d, &PAYLOADS)
 }
 
 // 28 by a finite grant: completed not below it; a tag after it delayed.
@@ -254,8 +255,8 @@ const RING: [[u64; 7]; 10] = [
     [0, PAYLOAD, 0, FINITE, 25, 0, 77],
 ];
 
-pub fn ring(i: Image, d: Desk) -> Desk {
-    on(b"28 by a finite grant", i, d, &RING)
+pub fn ring(rt: &impl Print, i: Image, d: Desk) -> io::Result<Desk> {
+    on(rt, "28 by a finite grant", i, d, &RING)
 }
 
 // 28 without delay: ZERO passes when nothing is completed; a tag at completed does not.
@@ -271,8 +272,8 @@ const PROMPT: [[u64; 7]; 9] = [
     [0, PAYLOAD, 0, FINITE, 5, 2, 77],
 ];
 
-pub fn prompt(i: Image, d: Desk) -> Desk {
-    on(b"28 without delay", i, d, &PROMPT)
+pub fn prompt(rt: &impl Print, i: Image, d: Desk) -> io::Result<Desk> {
+    on(rt, "28 without delay", i, d, &PROMPT)
 }
 
 // 28 before 29: both idle, the target stopped, the target past the tag. 29: the target past the tag, idle, stopped.
@@ -304,8 +305,8 @@ const TARGETS: [[u64; 7]; 25] = [
     [0, PAYLOAD, 0, FINITE, 10, 0, 77],
 ];
 
-pub fn targets(i: Image, d: Desk) -> Desk {
-    on(b"28 and 29", i, d, &TARGETS)
+pub fn targets(rt: &impl Print, i: Image, d: Desk) -> io::Result<Desk> {
+    on(rt, "28 and 29", i, d, &TARGETS)
 }
 
 // 29 before 30, and 30: the target holds another tag, as many as it may; its own may come again.
@@ -325,8 +326,8 @@ const FULL: [[u64; 7]; 13] = [
     [0, PAYLOAD, 0, FINITE, 21, 0, 77],
 ];
 
-pub fn full(i: Image, d: Desk) -> Desk {
-    on(b"29 and 30", i, d, &FULL)
+pub fn full(rt: &impl Print, i: Image, d: Desk) -> io::Result<Desk> {
+    on(rt, "29 and 30", i, d, &FULL)
 }
 
 // 31: unpublished, another revision, an event, an older revision while idle. 32: running.
@@ -352,6 +353,6 @@ const QUIET: [[u64; 7]; 19] = [
     [1, STOP, 0, NONE, 0, 0, 0],
 ];
 
-pub fn quiet(i: Image, d: Desk) -> Desk {
-    on(b"31 and 32", i, d, &QUIET)
+pub fn quiet(rt: &impl Print, i: Image, d: Desk) -> io::Result<Desk> {
+    on(rt, "31 and 32", i, d, &QUIET)
 }

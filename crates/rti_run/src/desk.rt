@@ -2,9 +2,9 @@
 // script, and below it, two spaces in, what is answered and what it leaves.
 ghost use Rattle.std.specs.Prelude.{◌+◌, ◌*◌, ◌≤◌, length};
 
-use libc::STDOUT_FILENO;
 use rti::Answer;
 use states::{Limit, Mark, MemberState, Publication, State};
+use std::io;
 
 // Slab words: 64 for each of two members, and two more. Delivery words: seven for each of five deliveries, and five more.
 pub const SLAB: usize = 130;
@@ -94,25 +94,25 @@ pub fn new() -> Desk {
     }
 }
 
-pub fn text(bytes: &[u8]) {
-    io::write_all(STDOUT_FILENO, bytes);
+pub fn text(rt: &impl Print, words: &str) -> io::Result<()> {
+    print!(rt; "{words}")
 }
 
-pub fn number(n: u64) {
-    io::print_decimal(STDOUT_FILENO, n);
+pub fn number(rt: &impl Print, n: u64) -> io::Result<()> {
+    print!(rt; "{n}")
 }
 
 // A gap and a number.
-fn item(n: u64) {
-    text(b" ");
-    number(n);
+fn item(rt: &impl Print, n: u64) -> io::Result<()> {
+    text(rt, " ")?;
+    number(rt, n)
 }
 
 // A line of a script: its name and a number.
-fn line(name: &[u8], n: u64) {
-    text(name);
-    item(n);
-    text(b"\n");
+fn line(rt: &impl Print, name: &str, n: u64) -> io::Result<()> {
+    text(rt, name)?;
+    item(rt, n)?;
+    text(rt, "\n")
 }
 
 fn one_if(yes: bool) -> u64
@@ -128,12 +128,13 @@ pub fn least(a: usize, b: usize) -> usize
 }
 
 // Every word.
-fn words(w: &[u64]) {
+fn words(rt: &impl Print, w: &[u64]) -> io::Result<()> {
     let mut i: usize = 0;
     while i < w.len() {
-        item(w[i]);
+        item(rt, w[i])?;
         i += 1;
     }
+    Ok(())
 }
 
 // How many words are marked.
@@ -148,88 +149,92 @@ fn marked(w: &[u64]) -> u64 {
 }
 
 // A word that is neither 0 nor marked, with its place.
-fn written(place: usize, w: u64) {
+fn written(rt: &impl Print, place: usize, w: u64) -> io::Result<()> {
     if w == 0 {
-        return;
+        return Ok(());
     }
     if w == MARK {
-        return;
+        return Ok(());
     }
-    item(place as u64);
-    text(b":");
-    number(w);
+    item(rt, place as u64)?;
+    text(rt, ":")?;
+    number(rt, w)
 }
 
 // All such words.
-fn writings(w: &[u64]) {
+fn writings(rt: &impl Print, w: &[u64]) -> io::Result<()> {
     let mut i: usize = 0;
     while i < w.len() {
-        written(i, w[i]);
+        written(rt, i, w[i])?;
         i += 1;
     }
+    Ok(())
 }
 
 // Delivery k.
-fn delivery(out: &[u64], k: usize)
+fn delivery(rt: &impl Print, out: &[u64], k: usize) -> io::Result<()>
     requires { 7 * k + 7 ≤ length out.now }
 {
     let from = WORDS * k;
     let to = from + WORDS;
-    text(b"  deliver");
-    words(&out[from..to]);
-    text(b"\n");
+    text(rt, "  deliver")?;
+    words(rt, &out[from..to])?;
+    text(rt, "\n")
 }
 
 // The deliveries, as many as are sent.
-fn deliveries(out: &[u64], count: usize) {
+fn deliveries(rt: &impl Print, out: &[u64], count: usize) -> io::Result<()> {
     let n = least(count, out.len() / WORDS);
     let mut k: usize = 0;
     while k < n {
-        delivery(out, k);
+        delivery(rt, out, k)?;
         k += 1;
     }
+    Ok(())
 }
 
 // A refusal, or what is sent and whether the session is finished.
-fn answered(a: Answer, out: &[u64]) {
+fn answered(rt: &impl Print, a: Answer, out: &[u64]) -> io::Result<()> {
     if a.refusal > 0 {
-        text(b"  refused");
-        item(a.refusal);
-        text(b" 0 0 0\n");
+        text(rt, "  refused")?;
+        item(rt, a.refusal)?;
+        text(rt, " 0 0 0\n")?;
     } else {
-        deliveries(out, a.count);
-        text(b"  answered");
-        item(a.count as u64);
-        item(one_if(rti::finished(a.state)));
-        text(b"\n");
+        deliveries(rt, out, a.count)?;
+        text(rt, "  answered")?;
+        item(rt, a.count as u64)?;
+        item(rt, one_if(rti::finished(a.state)))?;
+        text(rt, "\n")?;
     }
+    Ok(())
 }
 
 // A refusal, or that the session is open.
-fn opened(a: Answer) {
+fn opened(rt: &impl Print, a: Answer) -> io::Result<()> {
     if a.refusal > 0 {
-        text(b"  refused");
-        item(a.refusal);
-        text(b" 0 0 0\n");
+        text(rt, "  refused")?;
+        item(rt, a.refusal)?;
+        text(rt, " 0 0 0\n")?;
     } else {
-        text(b"  opened\n");
+        text(rt, "  opened\n")?;
     }
+    Ok(())
 }
 
 // What a call leaves: what ended the session and its code, whether it is finished, how many delivery words and slab words are as they
 // were before they were lent first, and the other slab words that are not 0.
-fn left(s: State, slab: &[u64], out: &[u64]) {
-    text(b"  cause");
-    item(s.cause);
-    item(s.code);
-    text(b" finished");
-    item(one_if(rti::finished(s)));
-    text(b" left");
-    item(marked(out));
-    text(b" slab");
-    item(marked(slab));
-    writings(slab);
-    text(b"\n");
+fn left(rt: &impl Print, s: State, slab: &[u64], out: &[u64]) -> io::Result<()> {
+    text(rt, "  cause")?;
+    item(rt, s.cause)?;
+    item(rt, s.code)?;
+    text(rt, " finished")?;
+    item(rt, one_if(rti::finished(s)))?;
+    text(rt, " left")?;
+    item(rt, marked(out))?;
+    text(rt, " slab")?;
+    item(rt, marked(slab))?;
+    writings(rt, slab)?;
+    text(rt, "\n")
 }
 
 // An opening with the first `lent` words of a slab.
@@ -284,96 +289,96 @@ fn with(d: Desk, state: State, slab: [u64; SLAB]) -> Desk {
 }
 
 // Opens a session.
-fn open(plan: &[u8], d: Desk, identity: u64) -> Desk {
-    line(b"open", identity);
+fn open(rt: &impl Print, plan: &[u8], d: Desk, identity: u64) -> io::Result<Desk> {
+    line(rt, "open", identity)?;
     let mut slab = d.slab;
     let out = [MARK; ROOM];
     let a = opening(plan, identity, &mut slab, d.lent);
-    opened(a);
+    opened(rt, a)?;
     let before = d.state;
     let state = kept(a, before);
-    left(state, &slab, &out);
-    with(d, state, slab)
+    left(rt, state, &slab, &out)?;
+    Ok(with(d, state, slab))
 }
 
 // Hands a request of words to the session.
-fn ask(plan: &[u8], d: Desk, request: &[u64]) -> Desk {
-    text(b"request");
-    words(request);
-    text(b"\n");
+fn ask(rt: &impl Print, plan: &[u8], d: Desk, request: &[u64]) -> io::Result<Desk> {
+    text(rt, "request")?;
+    words(rt, request)?;
+    text(rt, "\n")?;
     let mut slab = d.slab;
     let mut out = [MARK; ROOM];
     let before = d.state;
     let a = handling(plan, before, &mut slab, d.lent, request, &mut out, d.room);
-    answered(a, &out);
+    answered(rt, a, &out)?;
     let state = a.state;
-    left(state, &slab, &out);
-    with(d, state, slab)
+    left(rt, state, &slab, &out)?;
+    Ok(with(d, state, slab))
 }
 
 // The owner's abort.
-fn abort(plan: &[u8], d: Desk, code: u64) -> Desk {
-    line(b"abort", code);
+fn abort(rt: &impl Print, plan: &[u8], d: Desk, code: u64) -> io::Result<Desk> {
+    line(rt, "abort", code)?;
     let slab = d.slab;
     let mut out = [MARK; ROOM];
     let before = d.state;
     let a = aborting(plan, before, &slab, d.lent, code, &mut out, d.room);
-    answered(a, &out);
+    answered(rt, a, &out)?;
     let state = a.state;
-    left(state, &slab, &out);
-    with(d, state, slab)
+    left(rt, state, &slab, &out)?;
+    Ok(with(d, state, slab))
 }
 
 // The request that a row is, or as many words of it as are lent.
-fn request(plan: &[u8], d: Desk, w: [u64; 7]) -> Desk {
+fn request(rt: &impl Print, plan: &[u8], d: Desk, w: [u64; 7]) -> io::Result<Desk> {
     let eight = [w[0], w[1], w[2], w[3], w[4], w[5], w[6], 0];
     let long = least(d.long, MOST);
-    ask(plan, d, &eight[..long])
+    ask(rt, plan, d, &eight[..long])
 }
 
 // An opening, and Hello from members 0 and 1.
-fn start(plan: &[u8], d: Desk, identity: u64) -> Desk {
-    let one = open(plan, d, identity);
-    let two = request(plan, one, [0, HELLO, identity, NONE, 0, 0, 0]);
-    request(plan, two, [1, HELLO, identity, NONE, 0, 0, 0])
+fn start(rt: &impl Print, plan: &[u8], d: Desk, identity: u64) -> io::Result<Desk> {
+    let one = open(rt, plan, d, identity)?;
+    let two = request(rt, plan, one, [0, HELLO, identity, NONE, 0, 0, 0])?;
+    request(rt, plan, two, [1, HELLO, identity, NONE, 0, 0, 0])
 }
 
 // The same, and both publish that they have no event, and confirm it.
-fn rest(plan: &[u8], d: Desk, identity: u64) -> Desk {
-    let one = start(plan, d, identity);
-    let two = request(plan, one, [0, PUBLISH, 1, NONE, 0, 0, 0]);
-    let three = request(plan, two, [1, PUBLISH, 1, NONE, 0, 0, 0]);
-    let four = request(plan, three, [0, CONFIRM, 1, NONE, 0, 0, 0]);
-    request(plan, four, [1, CONFIRM, 1, NONE, 0, 0, 0])
+fn rest(rt: &impl Print, plan: &[u8], d: Desk, identity: u64) -> io::Result<Desk> {
+    let one = start(rt, plan, d, identity)?;
+    let two = request(rt, plan, one, [0, PUBLISH, 1, NONE, 0, 0, 0])?;
+    let three = request(rt, plan, two, [1, PUBLISH, 1, NONE, 0, 0, 0])?;
+    let four = request(rt, plan, three, [0, CONFIRM, 1, NONE, 0, 0, 0])?;
+    request(rt, plan, four, [1, CONFIRM, 1, NONE, 0, 0, 0])
 }
 
 // A refusal's number, and one that would come after it, if there is one.
-fn note(first: u64, second: u64) {
-    text(b"# ");
-    number(first);
+fn note(rt: &impl Print, first: u64, second: u64) -> io::Result<()> {
+    text(rt, "# ")?;
+    number(rt, first)?;
     if second > 0 {
-        text(b" before ");
-        number(second);
+        text(rt, " before ")?;
+        number(rt, second)?;
     }
-    text(b"\n");
+    text(rt, "\n")
 }
 
 // How many slab words are lent.
-fn lend(d: Desk, n: u64) -> Desk {
-    line(b"slab", n);
-    line(b"  slab", n);
+fn lend(rt: &impl Print, d: Desk, n: u64) -> io::Result<Desk> {
+    line(rt, "slab", n)?;
+    line(rt, "  slab", n)?;
     let mut e = d;
     e.lent = n as usize;
-    e
+    Ok(e)
 }
 
 // How many delivery words are lent.
-fn take(d: Desk, n: u64) -> Desk {
-    line(b"room", n);
-    line(b"  room", n);
+fn take(rt: &impl Print, d: Desk, n: u64) -> io::Result<Desk> {
+    line(rt, "room", n)?;
+    line(rt, "  room", n)?;
     let mut e = d;
     e.room = n as usize;
-    e
+    Ok(e)
 }
 
 // How many words of a request are lent.
@@ -384,45 +389,45 @@ fn cut(d: Desk, n: u64) -> Desk {
 }
 
 // A word of the slab.
-fn put(d: Desk, place: u64, value: u64) -> Desk {
-    text(b"word");
-    item(place);
-    item(value);
-    text(b"\n  word\n");
+fn put(rt: &impl Print, d: Desk, place: u64, value: u64) -> io::Result<Desk> {
+    text(rt, "word")?;
+    item(rt, place)?;
+    item(rt, value)?;
+    text(rt, "\n  word\n")?;
     let mut slab = d.slab;
     let at = place as usize;
     if at < SLAB {
         slab[at] = value;
     }
     let state = d.state;
-    with(d, state, slab)
+    Ok(with(d, state, slab))
 }
 
 // Puts another state in place.
-fn change(d: Desk, s: State) -> Desk {
-    text(b"state");
-    item(s.count as u64);
-    item(s.identity);
-    item(s.cause);
-    item(s.code);
-    text(b"\n  state\n");
+fn change(rt: &impl Print, d: Desk, s: State) -> io::Result<Desk> {
+    text(rt, "state")?;
+    item(rt, s.count as u64)?;
+    item(rt, s.identity)?;
+    item(rt, s.cause)?;
+    item(rt, s.code)?;
+    text(rt, "\n  state\n")?;
     let slab = d.slab;
-    with(d, s, slab)
+    Ok(with(d, s, slab))
 }
 
 // A state with another count.
-fn count(d: Desk, n: u64) -> Desk {
+fn count(rt: &impl Print, d: Desk, n: u64) -> io::Result<Desk> {
     let mut s = d.state;
     s.count = n as usize;
-    change(d, s)
+    change(rt, d, s)
 }
 
 // A state with another cause and code.
-fn cause(d: Desk, n: u64, code: u64) -> Desk {
+fn cause(rt: &impl Print, d: Desk, n: u64, code: u64) -> io::Result<Desk> {
     let mut s = d.state;
     s.cause = n;
     s.code = code;
-    change(d, s)
+    change(rt, d, s)
 }
 
 // The record of a member that has joined and is idle at revision 1.
@@ -442,51 +447,51 @@ fn resting(stopped: bool) -> MemberState {
 }
 
 // Puts such a record in place.
-fn settle(d: Desk, member: u64, stopped: u64) -> Desk {
-    text(b"member");
-    item(member);
-    text(b" 1 0 0 3 0 0 0 0 3 0 0 3 0 0 3 0 0 0 0 1 1");
-    item(stopped);
-    text(b" 0\n  member\n");
+fn settle(rt: &impl Print, d: Desk, member: u64, stopped: u64) -> io::Result<Desk> {
+    text(rt, "member")?;
+    item(rt, member)?;
+    text(rt, " 1 0 0 3 0 0 0 0 3 0 0 3 0 0 3 0 0 0 0 1 1")?;
+    item(rt, stopped)?;
+    text(rt, " 0\n  member\n")?;
     let mut s = d.state;
     let i = member as usize;
     if i < 32 {
         s.members[i] = resting(stopped == 1);
     }
     let slab = d.slab;
-    with(d, s, slab)
+    Ok(with(d, s, slab))
 }
 
 // Does what a row says.
-fn turn(plan: &[u8], d: Desk, w: [u64; 7]) -> Desk {
+fn turn(rt: &impl Print, plan: &[u8], d: Desk, w: [u64; 7]) -> io::Result<Desk> {
     match w[1] {
         NOTE => {
-            note(w[2], w[6]);
-            d
+            note(rt, w[2], w[6])?;
+            Ok(d)
         }
-        OPEN => open(plan, d, w[2]),
-        START => start(plan, d, w[2]),
-        REST => rest(plan, d, w[2]),
-        OWNER => abort(plan, d, w[2]),
-        LEND => lend(d, w[2]),
-        TAKE => take(d, w[2]),
-        CUT => cut(d, w[2]),
-        WORD => put(d, w[2], w[6]),
-        COUNT => count(d, w[2]),
-        CAUSE => cause(d, w[2], w[6]),
-        IDLE => settle(d, w[0], w[2]),
-        _ => request(plan, d, w),
+        OPEN => open(rt, plan, d, w[2]),
+        START => start(rt, plan, d, w[2]),
+        REST => rest(rt, plan, d, w[2]),
+        OWNER => abort(rt, plan, d, w[2]),
+        LEND => lend(rt, d, w[2]),
+        TAKE => take(rt, d, w[2]),
+        CUT => Ok(cut(d, w[2])),
+        WORD => put(rt, d, w[2], w[6]),
+        COUNT => count(rt, d, w[2]),
+        CAUSE => cause(rt, d, w[2], w[6]),
+        IDLE => settle(rt, d, w[0], w[2]),
+        _ => request(rt, plan, d, w),
     }
 }
 
 // Does what the rows of a table say, one after the other.
-pub fn run(plan: &[u8], desk: Desk, rows: &[[u64; 7]]) -> Desk {
+pub fn run(rt: &impl Print, plan: &[u8], desk: Desk, rows: &[[u64; 7]]) -> io::Result<Desk> {
     let mut d = desk;
     let mut i: usize = 0;
     while i < rows.len() {
         let w = rows[i];
-        d = turn(plan, d, w);
+        d = turn(rt, plan, d, w)?;
         i += 1;
     }
-    d
+    Ok(d)
 }

@@ -10,51 +10,57 @@ mod refusals;
 
 use crate::desk::Desk;
 use crate::plan::Image;
+use std::io;
 
 // The whole case on P, idle and stop, ended sessions, no members.
-fn sessions(p: Image, desk: Desk) -> Desk {
-    let a = cases::whole(p, desk);
-    let b = cases::orders(p, a);
-    let c = cases::again(p, b);
-    let d = cases::late(p, c);
-    let e = cases::ended(p, d);
-    let f = cases::codes(p, e);
-    cases::empty(plan::none(), f)
+fn sessions(rt: &impl Print, p: Image, desk: Desk) -> io::Result<Desk> {
+    let a = cases::whole(rt, p, desk)?;
+    let b = cases::orders(rt, p, a)?;
+    let c = cases::again(rt, p, b)?;
+    let d = cases::late(rt, p, c)?;
+    let e = cases::ended(rt, p, d)?;
+    let f = cases::codes(rt, p, e)?;
+    cases::empty(rt, plan::none(), f)
 }
 
 // 11 to 17, in a session under way and in one that has ended.
-fn refused(p: Image, desk: Desk) -> Desk {
-    let a = refusals::begun(p, desk);
-    let b = refusals::all(p, a);
-    let c = refusals::goes_on(p, b);
-    let d = refusals::aborted(p, c);
-    let e = refusals::all(p, d);
-    let f = refusals::ended(p, e);
-    refusals::largest(p, f)
+fn refused(rt: &impl Print, p: Image, desk: Desk) -> io::Result<Desk> {
+    let a = refusals::begun(rt, p, desk)?;
+    let b = refusals::all(rt, p, a)?;
+    let c = refusals::goes_on(rt, p, b)?;
+    let d = refusals::aborted(rt, p, c)?;
+    let e = refusals::all(rt, p, d)?;
+    let f = refusals::ended(rt, p, e)?;
+    refusals::largest(rt, p, f)
 }
 
 // 20 to 24.
-fn barred(p: Image, desk: Desk) -> Desk {
-    let a = causes::aborts(p, desk);
-    let b = causes::hellos(p, a);
-    let c = causes::absent(p, b);
-    let d = causes::halted(p, c);
-    causes::published(p, d)
+fn barred(rt: &impl Print, p: Image, desk: Desk) -> io::Result<Desk> {
+    let a = causes::aborts(rt, p, desk)?;
+    let b = causes::hellos(rt, p, a)?;
+    let c = causes::absent(rt, p, b)?;
+    let d = causes::halted(rt, p, c)?;
+    causes::published(rt, p, d)
 }
 
 // 25 to 32.
-fn failed(p: Image, desk: Desk) -> Desk {
-    let a = causes::completed(p, desk);
-    let b = causes::routes(p, a);
-    let c = causes::payloads(p, b);
-    let d = causes::ring(plan::ring(), c);
-    let e = causes::prompt(plan::pair(0), d);
-    let f = causes::targets(p, e);
-    let g = causes::full(p, f);
-    causes::quiet(p, g)
+fn failed(rt: &impl Print, p: Image, desk: Desk) -> io::Result<Desk> {
+    let a = causes::completed(rt, p, desk)?;
+    let b = causes::routes(rt, p, a)?;
+    let c = causes::payloads(rt, p, b)?;
+    let d = causes::ring(rt, plan::ring(), c)?;
+    let e = causes::prompt(rt, plan::pair(0), d)?;
+    let f = causes::targets(rt, p, e)?;
+    let g = causes::full(rt, p, f)?;
+    causes::quiet(rt, p, g)
 }
 
-fn main() {
+fn main(rt: HostRuntime) -> io::Result<()> {
     let p = plan::pair(10);
-    failed(p, barred(p, refused(p, sessions(p, desk::new()))));
+    failed(
+        &rt,
+        p,
+        barred(&rt, p, refused(&rt, p, sessions(&rt, p, desk::new())?)?)?,
+    )?;
+    Ok(())
 }

@@ -3,7 +3,7 @@ ghost use Rattle.std.specs.Prelude.{◌≤◌};
 
 use crate::desk;
 use crate::desk::{Desk, text};
-use libc::STDOUT_FILENO;
+use std::io;
 
 // Bytes of a plan of two members and two edges, and of an image.
 const PLAN: usize = 120;
@@ -124,35 +124,42 @@ fn wide(x: u8) -> u64 {
 }
 
 // Bytes in hex.
-fn hex(bytes: &[u8]) {
+fn hex(rt: &impl Print, bytes: &[u8]) -> io::Result<()> {
     let mut i: usize = 0;
     while i < bytes.len() {
-        io::print_hex(STDOUT_FILENO, wide(bytes[i]), 2);
+        print!(rt; "{:02x}", wide(bytes[i]))?;
         i += 1;
     }
+    Ok(())
 }
 
 // Names the image, and runs a table on it.
-fn named(image: &[u8], d: Desk, rows: &[[u64; 7]]) -> Desk {
-    text(b"image ");
-    hex(image);
-    text(b"\n  image ");
-    desk::number(image.len() as u64);
-    text(b"\n");
-    desk::run(image, d, rows)
+fn named(rt: &impl Print, image: &[u8], d: Desk, rows: &[[u64; 7]]) -> io::Result<Desk> {
+    text(rt, "image ")?;
+    hex(rt, image)?;
+    text(rt, "\n  image ")?;
+    desk::number(rt, image.len() as u64)?;
+    text(rt, "\n")?;
+    desk::run(rt, image, d, rows)
 }
 
 // The same of the first `total` bytes.
-fn first(bytes: &[u8], total: usize, d: Desk, rows: &[[u64; 7]]) -> Desk {
+fn first(
+    rt: &impl Print,
+    bytes: &[u8],
+    total: usize,
+    d: Desk,
+    rows: &[[u64; 7]],
+) -> io::Result<Desk> {
     let n = desk::least(total, bytes.len());
-    named(&bytes[..n], d, rows)
+    named(rt, &bytes[..n], d, rows)
 }
 
 // A title, and a table on an image.
-pub fn on(title: &[u8], i: Image, d: Desk, rows: &[[u64; 7]]) -> Desk {
-    text(b"# ");
-    text(title);
-    text(b"\n");
+pub fn on(rt: &impl Print, title: &str, i: Image, d: Desk, rows: &[[u64; 7]]) -> io::Result<Desk> {
+    text(rt, "# ")?;
+    text(rt, title)?;
+    text(rt, "\n")?;
     let bytes = i.bytes;
-    first(&bytes, i.total, d, rows)
+    first(rt, &bytes, i.total, d, rows)
 }

@@ -5,6 +5,7 @@ use crate::desk::{
 };
 use crate::plan;
 use crate::plan::{Image, on};
+use std::io;
 
 // A session on P, until member 1 holds a tag.
 const BEGUN: [[u64; 7]; 4] = [
@@ -14,8 +15,8 @@ const BEGUN: [[u64; 7]; 4] = [
     [0, PAYLOAD, 0, FINITE, 10, 0, 77],
 ];
 
-pub fn begun(i: Image, d: Desk) -> Desk {
-    on(b"A session under way", i, d, &BEGUN)
+pub fn begun(rt: &impl Print, i: Image, d: Desk) -> io::Result<Desk> {
+    on(rt, "A session under way", i, d, &BEGUN)
 }
 
 // A session that has ended while member 1 holds a tag.
@@ -26,8 +27,8 @@ const ABORTED: [[u64; 7]; 4] = [
     [1, ABORT, 7, NONE, 0, 0, 0],
 ];
 
-pub fn aborted(i: Image, d: Desk) -> Desk {
-    on(b"A session that has ended", i, d, &ABORTED)
+pub fn aborted(rt: &impl Print, i: Image, d: Desk) -> io::Result<Desk> {
+    on(rt, "A session that has ended", i, d, &ABORTED)
 }
 
 // An opening, a request and the owner's abort.
@@ -37,12 +38,12 @@ const CALLS: [[u64; 7]; 3] = [
     [0, OWNER, 1, 0, 0, 0, 0],
 ];
 
-pub fn altered(i: Image, d: Desk) -> Desk {
-    on(b"11", i, d, &CALLS)
+pub fn altered(rt: &impl Print, i: Image, d: Desk) -> io::Result<Desk> {
+    on(rt, "11", i, d, &CALLS)
 }
 
-pub fn altered_beyond(i: Image, d: Desk) -> Desk {
-    on(b"11 before 12", i, d, &CALLS)
+pub fn altered_beyond(rt: &impl Print, i: Image, d: Desk) -> io::Result<Desk> {
+    on(rt, "11 before 12", i, d, &CALLS)
 }
 
 // 12: the same calls, then with too few slab words.
@@ -62,8 +63,8 @@ const FAR: [[u64; 7]; 13] = [
     [0, LEND, 130, 0, 0, 0, 0],
 ];
 
-pub fn far(i: Image, d: Desk) -> Desk {
-    on(b"12", i, d, &FAR)
+pub fn far(rt: &impl Print, i: Image, d: Desk) -> io::Result<Desk> {
+    on(rt, "12", i, d, &FAR)
 }
 
 // 13 to 15, each alone and with the next: a slab word too few, a state that is not well formed, a delivery word too few.
@@ -102,8 +103,8 @@ const SHORT: [[u64; 7]; 31] = [
     [0, WORD, 127, 0, 0, 0, 0],
 ];
 
-pub fn short(i: Image, d: Desk) -> Desk {
-    on(b"13 to 15", i, d, &SHORT)
+pub fn short(rt: &impl Print, i: Image, d: Desk) -> io::Result<Desk> {
+    on(rt, "13 to 15", i, d, &SHORT)
 }
 
 // 15 before 16, and 16: not seven words, another kind or class, offset or microstep outside class 1.
@@ -131,8 +132,8 @@ const MALFORMED: [[u64; 7]; 21] = [
     [0, PUBLISH, 1, NONE, 0, 1, 0],
 ];
 
-pub fn malformed(i: Image, d: Desk) -> Desk {
-    on(b"15 before 16", i, d, &MALFORMED)
+pub fn malformed(rt: &impl Print, i: Image, d: Desk) -> io::Result<Desk> {
+    on(rt, "15 before 16", i, d, &MALFORMED)
 }
 
 // 16: an unused word not as said, class 3 in Complete and Payload. Then 16 before 17, and 17, which stands before all that ends a
@@ -174,8 +175,8 @@ const UNUSED: [[u64; 7]; 26] = [
     [0, PAYLOAD, 9, FINITE, 9223372036854775808, 0, 77],
 ];
 
-pub fn unused(i: Image, d: Desk) -> Desk {
-    on(b"16", i, d, &UNUSED)
+pub fn unused(rt: &impl Print, i: Image, d: Desk) -> io::Result<Desk> {
+    on(rt, "16", i, d, &UNUSED)
 }
 
 // The session goes on as if nothing had been refused.
@@ -190,8 +191,8 @@ const GOES_ON: [[u64; 7]; 8] = [
     [1, STOP, 0, NONE, 0, 0, 0],
 ];
 
-pub fn goes_on(i: Image, d: Desk) -> Desk {
-    on(b"It goes on", i, d, &GOES_ON)
+pub fn goes_on(rt: &impl Print, i: Image, d: Desk) -> io::Result<Desk> {
+    on(rt, "It goes on", i, d, &GOES_ON)
 }
 
 // The session has ended as it had.
@@ -201,8 +202,8 @@ const ENDED: [[u64; 7]; 3] = [
     [0, OWNER, 1, 0, 0, 0, 0],
 ];
 
-pub fn ended(i: Image, d: Desk) -> Desk {
-    on(b"It has ended as it had", i, d, &ENDED)
+pub fn ended(rt: &impl Print, i: Image, d: Desk) -> io::Result<Desk> {
+    on(rt, "It has ended as it had", i, d, &ENDED)
 }
 
 // An offset of L is not refused.
@@ -239,20 +240,20 @@ const LARGEST: [[u64; 7]; 6] = [
     ],
 ];
 
-pub fn largest(i: Image, d: Desk) -> Desk {
-    on(b"An offset of L", i, d, &LARGEST)
+pub fn largest(rt: &impl Print, i: Image, d: Desk) -> io::Result<Desk> {
+    on(rt, "An offset of L", i, d, &LARGEST)
 }
 
 // 2^63, one more than a session's delays may be.
 const BEYOND: u64 = 9223372036854775808;
 
 // 11 to 17 of a session on P, which they leave as it is. 11: another version, another minimum delay, a byte less; 11 before 12.
-pub fn all(p: Image, desk: Desk) -> Desk {
+pub fn all(rt: &impl Print, p: Image, desk: Desk) -> io::Result<Desk> {
     let beyond = plan::pair(BEYOND);
-    let a = altered(plan::damaged(p, 0, 2), desk);
-    let b = altered(plan::damaged(p, 176, 11), a);
-    let c = altered(plan::shorter(p), b);
-    let d = altered_beyond(plan::damaged(beyond, 184, 2), c);
-    let e = far(beyond, d);
-    unused(p, malformed(p, short(p, e)))
+    let a = altered(rt, plan::damaged(p, 0, 2), desk)?;
+    let b = altered(rt, plan::damaged(p, 176, 11), a)?;
+    let c = altered(rt, plan::shorter(p), b)?;
+    let d = altered_beyond(rt, plan::damaged(beyond, 184, 2), c)?;
+    let e = far(rt, beyond, d)?;
+    unused(rt, p, malformed(rt, p, short(rt, p, e)?)?)
 }
