@@ -30,8 +30,7 @@ loop-t-smaller c = omega arith
 
 pub loop-t-preserved : goal.loop-t-preserved
 loop-t-preserved c = let l = c.loop-t in
-    let r = c.claim_member in
-    (
+    let r = c.claim_member in (
       omega arith,
       omega arith,
       omega arith,
