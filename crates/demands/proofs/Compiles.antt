@@ -1,9 +1,9 @@
 -- What compiling writes is recognised.
 -- Assumes nothing.
-use Prim.Native.Nat.{ℕ, zero, suc, ◌+◌, ◌-◌, ◌*◌, ◌<◌, ◌≤◌}
+use Prim.Native.Nat.{ℕ, zero, suc, ◌+◌, ◌-◌, ◌<◌, ◌≤◌}
 use mathlib.Core.Path.{◌≡◌, refl, sym, ap, ◌∙◌}
 use mathlib.Core.Bool.{Bool, true, false}
-use mathlib.Core.List.{List, [], ◌∷◌}
+use mathlib.Core.List.{List}
 use native.Mathlib.Omega.{arith}
 use native.Mathlib.Nat.{add-zero, add-suc, zero-add, suc-add}
 use borrow.Author.Tests.{ltb-true, ltb-false, le-ltb}
@@ -19,7 +19,7 @@ use Rattle.delays.specs.Refusals.{refusal_of}
 use Rattle.image.specs.Image.{image_of}
 use Rattle.image.specs.Whole.{Unused, Whole}
 use Rattle.image.proofs.Injective.{members-back, edges-back, id-back, capacity-back, route_back, source-back, target-back, delay-back}
-use Rattle.rows.specs.Rows.{field, members, edges, member_id, capacity, edge_id, edge_source, edge_target, edge_delay}
+use Rattle.rows.specs.Rows.{field, member_id, capacity, edge_id, edge_source, edge_target, edge_delay}
 use Rattle.rows.specs.Plans.{listed, padded, plan_in}
 use Rattle.rows.proofs.Plans.{padded-at, padded-length}
 use Rattle.recognised.specs.Recognised.{is_image}

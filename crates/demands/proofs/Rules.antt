@@ -1,10 +1,10 @@
 -- The passes of a step are 01's rules.
 -- Assumes nothing.
-use Prim.Native.Nat.{ℕ, zero, suc, ◌+◌, ◌<◌}
+use Prim.Native.Nat.{ℕ, zero, suc, ◌<◌}
 use native.Mathlib.Omega.{arith}
 use mathlib.Core.Path.{◌≡◌, refl, sym, ap, ap₂, subst, ◌∙◌}
 use mathlib.Core.Bool.{Bool, true, false}
-use mathlib.Core.Logic.{◌⊎◌, ⊎_elim}
+use mathlib.Core.Logic.{⊎_elim}
 use mathlib.Core.List.{List, [], ◌∷◌, ◌++◌, append_assoc}
 use lib.Dec.{eqb}
 use lib.ListN.{length}
@@ -15,7 +15,7 @@ use Rattle.plans.specs.Nets.{Net, downstream}
 use Rattle.states.specs.declared.Delivery.{Delivery}
 use Rattle.states.specs.declared.Delivery.TheVariants.{Idle}
 use Rattle.states.specs.Sessions.{Member, Session, view, with_grant, with_idle}
-use Rattle.states.specs.Rules.{horizon, due, revision_of}
+use Rattle.states.specs.Rules.{horizon, revision_of}
 use Rattle.states.specs.Steps.{Out, tell, each, every, visit, granting, grant_below, grants, at_rest, idling, idles, bounding, bounds, follow, refusal_of, effect, welcome, accepted, answered, step}
 use Rattle.states.proofs.Laws.{picked, which}
 use Rattle.states.proofs.Passes.{put_same, put_other, Long, visit-long, effect-long}

@@ -4,7 +4,7 @@ use Prim.Native.Nat.{ℕ, zero, suc, ◌<◌, ◌≤◌}
 use native.Mathlib.Omega.{arith}
 use mathlib.Core.Path.{◌≡◌, refl, sym, ap, ◌∙◌}
 use mathlib.Core.Bool.{Bool, true, false}
-use mathlib.Core.Logic.{◌⊎◌, ⊎_elim}
+use mathlib.Core.Logic.{⊎_elim}
 use borrow.Author.Tests.{eqb-true}
 use Rattle.tags.specs.declared.Tag.{Tag}
 use Rattle.tags.specs.Tags.{tag_le}

@@ -1,21 +1,21 @@
 -- The image read back: each row stands at its place, and each number in it.
 -- Assumes nothing.
-use mathlib.Core.Path.{◌≡◌, refl, sym, ap, ◌∙◌}
+use mathlib.Core.Path.{◌≡◌, sym, ap, ◌∙◌}
 use mathlib.Core.List.{List, [], ◌∷◌, ◌++◌, append-nil}
 use Prim.Native.Nat.{ℕ, zero, suc, ◌+◌, ◌-◌, ◌*◌, ◌^◌, ◌<◌, ◌≤◌}
 use native.Mathlib.Omega.{arith}
-use native.Mathlib.Nat.{zero-add, add-zero, suc-add, mul-zero, mul-one, mul-le-mul_left}
-use lib.ListN.{length, get_or, take, drop, length-append}
-use lib.Seq.{take_at, take-nil, drop-nil, drop-append-add, take-take, drop-drop}
+use native.Mathlib.Nat.{zero-add, suc-add, mul-le-mul_left}
+use lib.ListN.{length, get_or, take, drop}
+use lib.Seq.{take_at, take-nil, drop-append-add, take-take, drop-drop}
 use Rattle.basis.specs.Numbers.{bytes, number, number_at}
 use Rattle.basis.specs.Parts.{part}
 use Rattle.basis.proofs.Numbers.{length-bytes, number-bytes}
 use Rattle.basis.proofs.Parts.{part_left}
 use Rattle.plans.specs.declared.Plan.{Plan}
 use Rattle.delays.specs.Lists.{Source, direct_sources, transitive_sources, downstream}
-use Rattle.image.specs.Image.{laid, gathered, first_of, up_to, words, source_row, target_row, member_row, edge_row, member_table, edge_table, direct_table, transitive_table, downstream_table, direct_count, transitive_count, downstream_count, edges_at, direct_at, transitive_at, downstream_at, end_at, header_of, image_of}
+use Rattle.image.specs.Image.{laid, gathered, up_to, words, source_row, target_row, member_row, edge_row, member_table, edge_table, direct_table, transitive_table, downstream_table, direct_count, transitive_count, downstream_count, edges_at, direct_at, transitive_at, downstream_at, header_of, image_of}
 use Rattle.image.proofs.Tables.{length-laid, row_at, length-gathered, length-up_to, get_or-up_to}
-use Rattle.image.proofs.Rows.{length-words, length-header, length-source, length-target}
+use Rattle.image.proofs.Rows.{length-header, length-source, length-target}
 use Rattle.image.proofs.Sizes.{length-member_row, length-edge_row, length-members, length-edges, length-direct, length-transitive}
 
 -- ---- parts of parts

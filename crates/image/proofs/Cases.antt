@@ -12,7 +12,7 @@ use Rattle.plans.specs.Order.{member_before, edge_before, insert, ordered, place
 use Rattle.plans.specs.Reading.{plan_from, reading_of}
 use Rattle.delays.specs.Graph.{plus, next, via, cost, direct}
 use Rattle.delays.specs.Lists.{passing, sourced, direct_sources, transitive_sources, reached, downstream}
-use Rattle.delays.specs.Search.{first, mask_of}
+use Rattle.delays.specs.Search.{first}
 use Rattle.delays.specs.Refusals as delayed
 use Rattle.image.specs.Image as image
 use Rattle.image.specs.Image.{words, laid, image_of, total_of}

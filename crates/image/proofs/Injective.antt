@@ -3,7 +3,7 @@
 use mathlib.Core.Path.{◌≡◌, refl, sym, ap, ◌∙◌}
 use mathlib.Core.Bool.{Bool, true, false}
 use mathlib.Core.List.{List, [], ◌∷◌, ◌++◌}
-use Prim.Native.Nat.{ℕ, ◌+◌, ◌*◌, ◌^◌, ◌<◌, ◌≤◌}
+use Prim.Native.Nat.{ℕ, ◌+◌, ◌*◌, ◌<◌}
 use native.Mathlib.Omega.{arith}
 use borrow.Author.Tests.{ltb-true, ltb-false}
 use lib.Dec.{ltb}
@@ -14,10 +14,9 @@ use Rattle.basis.specs.Parts.{part}
 use Rattle.basis.proofs.Numbers.{length-bytes}
 use Rattle.basis.proofs.Parts.{part_left}
 use Rattle.plans.specs.declared.Plan.{Plan}
-use Rattle.plans.specs.Values.{Fits}
 use Rattle.delays.specs.Lists.{direct_sources, transitive_sources, downstream}
 use Rattle.image.specs.Image.{words, first_of, member_row, edge_row, direct_count, transitive_count, downstream_count, header, edges_at, direct_at, transitive_at, downstream_at, end_at, header_of, image_of}
-use Rattle.image.specs.Whole.{Wide, Unused, Whole}
+use Rattle.image.specs.Whole.{Unused, Whole}
 use Rattle.image.proofs.Rows.{length-words}
 use Rattle.image.proofs.Back.{part-skip, part-first, part-all, number_in, word_in, header_in, member_back, edge-back}
 

@@ -3,7 +3,7 @@
 use mathlib.Core.Path.{◌≡◌, refl, sym, ap, ◌∙◌}
 use mathlib.Core.Bool.{Bool, true, false}
 use mathlib.Core.Logic.{⊎_elim}
-use mathlib.Core.List.{List, []}
+use mathlib.Core.List.{List}
 use Prim.Native.Nat.{ℕ, zero, suc, ◌+◌, ◌*◌, ◌<◌, ◌≤◌, min}
 use native.Mathlib.Omega.{arith}
 use native.Mathlib.Nat.{eq-or-lt_of_le}
@@ -14,7 +14,7 @@ use Rattle.basis.specs.Choice.{pick, not, both}
 use Rattle.plans.specs.declared.Plan.{Plan}
 use Rattle.plans.specs.Values.{Fits}
 use Rattle.delays.specs.Graph.{far, none, cost, direct, direct_of, minimum_of}
-use Rattle.delays.specs.Lists.{Source, sourced, passing, reached, direct_sources, transitive_sources, downstream}
+use Rattle.delays.specs.Lists.{sourced, passing, reached, direct_sources, transitive_sources, downstream}
 use Rattle.image.specs.Image.{first_of, direct_count, transitive_count, downstream_count, total_of, image_of}
 use Rattle.image.specs.Writing.{summed, counted}
 use Rattle.image.proofs.Counts.{summed-most, one-most, counted-most}

@@ -3,18 +3,17 @@
 use mathlib.Core.Path.{◌≡◌, refl, sym, ap, ◌∙◌}
 use mathlib.Core.Bool.{Bool, true, false}
 use mathlib.Core.List.{List, [], ◌∷◌, ◌++◌, append_assoc}
-use Prim.Native.Nat.{ℕ, zero, suc, ◌+◌, ◌*◌, ◌<◌, ◌≤◌}
+use Prim.Native.Nat.{ℕ, zero, suc, ◌<◌, ◌≤◌}
 use native.Mathlib.Omega.{arith}
 use lib.Dec.{ltb, leb, eqb}
-use lib.ListN.{length, get_or}
+use lib.ListN.{length}
 use Rattle.basis.specs.Choice.{pick, not, both}
 use Rattle.plans.specs.declared.Plan.{Plan}
-use Rattle.plans.specs.Values.{Fits}
 use Rattle.delays.specs.Graph.{far, direct_of, minimum_of}
 use Rattle.delays.specs.Cells.{Held, kind_of, word_of}
-use Rattle.delays.specs.Lists.{Source, sourced, passing, reached, direct_sources, transitive_sources, downstream}
-use Rattle.image.specs.Image.{laid, gathered, first_of, source_row, target_row, member_row, edge_row, member_table, edge_table, direct_table, transitive_table, downstream_table, direct_count, transitive_count, downstream_count, header_of, end_at, total_of, image_of}
-use Rattle.image.specs.Writing.{Room, held, onward, summed, counted, source_count, target_count, source_bytes, sources_bytes, source_table, target_bytes, targets_bytes, target_table, member_bytes, member_in, members_bytes, edge_in, edge_bytes, edges_bytes, front_bytes, back_bytes}
+use Rattle.delays.specs.Lists.{sourced, passing, reached, direct_sources, transitive_sources, downstream}
+use Rattle.image.specs.Image.{laid, gathered, first_of, source_row, target_row, member_row, edge_row, member_table, edge_table, direct_table, transitive_table, downstream_table, direct_count, transitive_count, downstream_count, end_at, total_of, image_of}
+use Rattle.image.specs.Writing.{Room, held, onward, summed, counted, source_count, target_count, source_bytes, sources_bytes, source_table, target_bytes, targets_bytes, target_table, member_bytes, member_in, members_bytes, edge_bytes, edges_bytes, front_bytes, back_bytes}
 use Rattle.image.proofs.Counts.{sources-few, targets-few}
 use Rattle.image.proofs.Sizes.{length-image}
 use Rattle.image.proofs.Tables.{laid_one, gathered-same, length-gathered, laid-gathered, laid-up_to}

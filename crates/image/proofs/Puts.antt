@@ -1,13 +1,11 @@
 -- Writers one after another, over whatever each one writes.
 -- Assumes nothing.
-use mathlib.Core.Path.{◌≡◌, refl, sym, ap, ◌∙◌}
+use mathlib.Core.Path.{◌≡◌, sym, ap, ◌∙◌}
 use mathlib.Core.List.{List, [], ◌∷◌, ◌++◌}
-use Prim.Native.Nat.{ℕ, zero, suc, ◌+◌, ◌*◌, ◌<◌, ◌≤◌}
+use Prim.Native.Nat.{ℕ, zero, suc, ◌+◌, ◌<◌, ◌≤◌}
 use native.Mathlib.Omega.{arith}
 use native.Mathlib.Nat.{add-zero}
-use native.Mathlib.Numerals.{add-one}
 use lib.ListN.{length, get_or, length-append}
-use Rattle.basis.specs.Parts.{replaced}
 use Rattle.basis.proofs.Parts.{replaced-none, length-replaced, replaced-join}
 use Rattle.image.specs.Image.{gathered}
 use Rattle.image.specs.Writing.{Put, Room, Small}

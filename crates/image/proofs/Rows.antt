@@ -1,15 +1,15 @@
 -- The rows: how long each is, and which stand where.
 -- Assumes nothing.
-use mathlib.Core.Path.{◌≡◌, refl, sym, ap, ◌∙◌}
-use mathlib.Core.Bool.{Bool, true, false}
+use mathlib.Core.Path.{◌≡◌}
+use mathlib.Core.Bool.{true, false}
 use mathlib.Core.List.{List, [], ◌∷◌, ◌++◌}
-use Prim.Native.Nat.{ℕ, zero, suc, ◌+◌, ◌*◌, ◌<◌, ◌≤◌}
+use Prim.Native.Nat.{ℕ, ◌+◌, ◌*◌}
 use native.Mathlib.Omega.{arith}
 use lib.ListN.{length, get_or, length-append}
 use Rattle.basis.specs.Numbers.{bytes}
 use Rattle.basis.proofs.Numbers.{length-bytes}
 use Rattle.delays.specs.Lists.{Source}
-use Rattle.image.specs.Image.{laid, words, source_row, target_row, header_of}
+use Rattle.image.specs.Image.{words, source_row, target_row, header_of}
 use Rattle.image.specs.Writing.{held, onward, source_bytes, target_bytes, member_bytes, member_in, edge_bytes, summed, source_count, target_count}
 use Rattle.image.proofs.Tables.{length-laid}
 

@@ -1,13 +1,13 @@
 -- How long the image of a plan is.
 -- Assumes nothing.
-use mathlib.Core.Path.{◌≡◌, refl, sym, ap, ◌∙◌}
-use mathlib.Core.List.{List, [], ◌∷◌, ◌++◌}
-use Prim.Native.Nat.{ℕ, zero, suc, ◌+◌, ◌*◌, ◌<◌, ◌≤◌}
+use mathlib.Core.Path.{◌≡◌, ap, ◌∙◌}
+use mathlib.Core.List.{List}
+use Prim.Native.Nat.{ℕ, ◌*◌}
 use native.Mathlib.Omega.{arith}
 use lib.ListN.{length, get_or, length-append}
 use Rattle.plans.specs.declared.Plan.{Plan}
 use Rattle.delays.specs.Lists.{direct_sources, transitive_sources, downstream}
-use Rattle.image.specs.Image.{laid, gathered, first_of, up_to, source_row, target_row, member_row, edge_row, member_table, edge_table, direct_table, transitive_table, downstream_table, direct_count, transitive_count, downstream_count, header_of, end_at, total_of, image_of}
+use Rattle.image.specs.Image.{laid, gathered, first_of, up_to, source_row, target_row, member_row, edge_row, member_table, edge_table, direct_table, transitive_table, downstream_table, direct_count, transitive_count, downstream_count, total_of, image_of}
 use Rattle.image.specs.Writing.{member_bytes, edge_bytes}
 use Rattle.image.proofs.Tables.{length-laid, length-gathered, length-up_to}
 use Rattle.image.proofs.Rows.{length-header, length-member, length-edge, length-source, length-target}

@@ -3,12 +3,12 @@
 use mathlib.Core.Path.{◌≡◌, refl, sym, ap, ◌∙◌}
 use mathlib.Core.Logic.{⊎_elim}
 use mathlib.Core.List.{List, [], ◌∷◌, ◌++◌, append_assoc, append-nil}
-use Prim.Native.Nat.{ℕ, zero, suc, ◌+◌, ◌-◌, ◌*◌, ◌<◌, ◌≤◌}
+use Prim.Native.Nat.{ℕ, zero, suc, ◌+◌, ◌*◌, ◌<◌, ◌≤◌}
 use native.Mathlib.Omega.{arith}
-use native.Mathlib.Nat.{mul-zero, mul-suc, add-zero, eq-or-lt_of_le}
+use native.Mathlib.Nat.{mul-zero, eq-or-lt_of_le}
 use native.Mathlib.Numerals.{add-one}
-use lib.ListN.{length, get_or, take, drop, length-append, get_or-append}
-use lib.Seq.{take_at, drop_at, get_or_at, drop-append-add, take-suc, take-length}
+use lib.ListN.{length, get_or, take, length-append, get_or-append}
+use lib.Seq.{take_at, get_or_at, drop-append-add, take-suc, take-length}
 use Rattle.basis.specs.Parts.{part}
 use Rattle.image.specs.Image.{laid, gathered, first_of, up_to}
 

@@ -1,6 +1,6 @@
 -- What compiling answers, and what it leaves in the output.
 -- Assumes nothing.
-use Rattle.std.specs.Prelude.{◌≡◌, List, ◌++◌, ℕ, ltb, eqb, length, drop}
+use Rattle.std.specs.Prelude.{◌≡◌, List, ◌++◌, ℕ, ltb, eqb, drop}
 use Rattle.basis.specs.Choice.{pick}
 use Rattle.plans.specs.declared.Plan.{Plan}
 use Rattle.plans.specs.declared.Refusal.{Refusal}

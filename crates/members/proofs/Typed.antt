@@ -1,10 +1,10 @@
 -- What the types of a state say of it: 32 records, and microsteps of at most M.
 -- Assumes nothing.
 use Prim.Native.Nat.{ℕ, zero, suc}
-use mathlib.Core.Path.{◌≡◌, sym, ◌∙◌}
-use mathlib.Core.List.{List, [], ◌∷◌, map}
+use mathlib.Core.Path.{◌≡◌}
+use mathlib.Core.List.{List, [], ◌∷◌}
 use native.Mathlib.Omega.{arith}
-use lib.ListN.{length, get_or, length-map}
+use lib.ListN.{length, get_or}
 use mir.Val.{Val}
 use base.Fml.{Fml}
 use denote.Shadow.{shadow}
@@ -61,17 +61,17 @@ record_small : (r : MemberState) (vs : List Val) → Is (row member.the_type) r 
 record_small r vs h = (event-small r.publication _ h.1.1.1.0, limit-small r.completed _ h.1.1.1.1.1.1.1.0)
 
 -- what each element of an array shows
-each_at : {A D : Type 0} (into : A → D) (f : D → List Val → Fml) (P : A → Type 0) → ((x : A) (vs : List Val) → shadow (f (into x) vs) → P x)
-    → (xs : List A) (us : List Val) → shadow (each D f (map into xs) us) → (z : A) → P z → (i : ℕ) → P (get_or xs i z)
-each_at into f P one [] us h z p i = p
-each_at into f P one (x ∷ xs) [] h z p i = absurd h
-each_at into f P one (x ∷ xs) (u ∷ us) h z p zero = one x (u ∷ []) h.0
-each_at into f P one (x ∷ xs) (u ∷ us) h z p (suc i) = each_at into f P one xs us h.1 z p i
+each_at : {A : Type 0} (f : A → List Val → Fml) (P : A → Type 0) → ((x : A) (vs : List Val) → shadow (f x vs) → P x)
+    → (xs : List A) (us : List Val) → shadow (each A f xs us) → (z : A) → P z → (i : ℕ) → P (get_or xs i z)
+each_at f P one [] us h z p i = p
+each_at f P one (x ∷ xs) [] h z p i = absurd h
+each_at f P one (x ∷ xs) (u ∷ us) h z p zero = one x (u ∷ []) h.0
+each_at f P one (x ∷ xs) (u ∷ us) h z p (suc i) = each_at f P one xs us h.1 z p i
 
 pub typed : (s : State) (vs : List Val) → Is (row state.the_type) s vs → Typed s
 typed s vs h =
     let array = h.1.1.0 in
     record {
-      whole = sym (length-map s.members (member.the_field).into) ∙ array.1.0.1;
-      small = each_at (member.the_field).into (member.the_field).row.own_val SmallRecord record_small s.members array.0 array.1.1 blank_record (tt, tt);
+      whole = array.1.0.1;
+      small = each_at (row member.the_type).own_val SmallRecord record_small s.members array.0 array.1.1 blank_record (tt, tt);
     }

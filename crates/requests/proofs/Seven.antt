@@ -1,11 +1,11 @@
 -- Seven words stored one after the other are put in as one part.
 -- Assumes nothing.
 use Prim.Native.Nat.{ℕ, suc, ◌+◌, ◌≤◌}
-use mathlib.Core.Path.{◌≡◌, refl, sym, ap, ◌∙◌}
+use mathlib.Core.Path.{◌≡◌, ◌∙◌}
 use mathlib.Core.List.{List, [], ◌∷◌, append_assoc}
 use native.Mathlib.Omega.{arith}
 use lib.ListN.{length, set, take, drop}
-use lib.Seq.{sets, sets-eq}
+use lib.Seq.{sets-eq}
 use Rattle.basis.specs.Parts.{replaced}
 
 pub seven : (i a b c d e f g : ℕ) (l : List ℕ) → i + 7 ≤ length l →

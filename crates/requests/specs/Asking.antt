@@ -1,6 +1,6 @@
 -- What seven words ask: a member and a request, or a refusal.
 -- Assumes nothing.
-use Rattle.std.specs.Prelude.{ℕ, Bool, true, false, List, [], ◌∷◌, ltb, eqb, length, get_or}
+use Rattle.std.specs.Prelude.{ℕ, Bool, false, List, ltb, eqb, length, get_or}
 use Rattle.basis.specs.Choice.{pick}
 use Rattle.tags.specs.declared.Tag.{Tag}
 use Rattle.tags.specs.declared.Tag.TheVariants.{Never, Finite, Forever}

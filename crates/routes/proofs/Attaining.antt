@@ -16,18 +16,18 @@ use lib.Seq.{length-take-le, get_or-take}
 use Rattle.basis.specs.Choice.{both, either}
 use Rattle.plans.specs.declared.Plan.{Plan}
 use Rattle.plans.specs.Values.{Fits}
-use Rattle.delays.specs.Graph.{far, Edge, Walk as Path, last, then, EdgeOf, minimum_of}
+use Rattle.delays.specs.Graph.{far, Walk as Path, last, then, EdgeOf, minimum_of}
 use Rattle.delays.specs.Cells.{grid, Held}
 use Rattle.delays.specs.Refusals.{refusal_of}
 use Rattle.delays.specs.Search.{first}
-use Rattle.delays.proofs.Walks.{le-or-lt, Least}
+use Rattle.delays.proofs.Walks.{le-or-lt}
 use Rattle.delays.proofs.Order.{minimum-least, triangle-sum, Strict, NoDelay}
 use Rattle.delays.proofs.Found.{taken, taken-strict}
 use Rattle.routes.specs.declared.Walk.{Walk}
 use Rattle.routes.specs.Paths.{delay_sum, PathRight, Answered, mark_of, Marked, enters, Back, Written}
 use Rattle.routes.proofs.Marks.{Meaning, out, alone, after, off, meaning, mark-agree}
 use Rattle.routes.proofs.Tallies.{tally, tally-below, tally-strict}
-use Rattle.routes.proofs.Traces.{Entering, found, is_found}
+use Rattle.routes.proofs.Traces.{Entering, is_found}
 
 -- unused places are 0
 pub zeros : (n i : ℕ) → ◌≡◌ {A = ℕ} (get_or (replicate n 0) i 0) 0

@@ -14,7 +14,6 @@ use lib.Seq.{length-take-le, get_or-take}
 use Rattle.basis.specs.Choice.{both}
 use Rattle.plans.specs.declared.Plan.{Plan}
 use Rattle.plans.specs.declared.Reading.{Reading}
-use Rattle.plans.specs.declared.Refusal.{Refusal}
 use Rattle.plans.specs.Reading.{reading_of}
 use Rattle.routes.specs.declared.Walk.{Walk}
 use Rattle.routes.specs.Closed.{ClosedZero, after, goes_on, closing, closes_zero, listed, accepts}

@@ -13,7 +13,6 @@ use lib.Dec.{eqb}
 use lib.ListN.{length, get_or, set}
 use lib.Seq.{get_or-set_same, get_or-set_other}
 use Rattle.basis.specs.Choice.{pick, not, both}
-use Rattle.delays.specs.declared.Reach.{Reach}
 use Rattle.delays.specs.declared.Reach.TheVariants.{At, TooFar, None}
 use Rattle.delays.specs.Graph.{far, reach_of}
 use Rattle.delays.proofs.Walks.{le-or-lt, of-near, of-far, of_none, Size, near, just, past, size}

@@ -13,7 +13,7 @@ use lib.Dec.{eqb}
 use lib.ListN.{length, get_or, set}
 use lib.Seq.{get_or-set_same, get_or-set_other}
 use Rattle.basis.specs.Choice.{pick, not}
-use Rattle.routes.specs.Trails.{keep_of, Keeping, leaving, Leaves, Onward, unvisited, Trail, Standing, Stretch, Moved}
+use Rattle.routes.specs.Trails.{keep_of, Keeping, leaving, Leaves, unvisited, Trail, Standing, Stretch, Moved}
 use Rattle.routes.proofs.Every.{both_true}
 
 -- ---- counting

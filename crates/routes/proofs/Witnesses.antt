@@ -1,8 +1,8 @@
 -- The kept edges lead on, what is found is a closed walk without delay, and one is found where 8 applies.
 -- Assumes nothing.
-use mathlib.Core.Bool.{Bool, true}
+use mathlib.Core.Bool.{true}
 use mathlib.Core.Path.{◌≡◌, refl, sym, ap, ◌∙◌}
-use mathlib.Core.Logic.{◌⊎◌, ⊎_elim}
+use mathlib.Core.Logic.{⊎_elim}
 use mathlib.Core.List.{List}
 use Prim.Native.Nat.{ℕ, zero, suc, ◌+◌, ◌-◌, ◌<◌, ◌≤◌}
 use native.Mathlib.Omega.{arith}
@@ -17,7 +17,7 @@ use Rattle.plans.specs.declared.Reading.{Reading}
 use Rattle.plans.specs.declared.Refusal.{Refusal}
 use Rattle.plans.specs.Values.{Fits}
 use Rattle.plans.specs.Reading.{reading_of}
-use Rattle.delays.specs.Graph.{far, Edge, EdgeOf, minimum_of}
+use Rattle.delays.specs.Graph.{far, EdgeOf, minimum_of}
 use Rattle.delays.specs.Cells.{grid, Held}
 use Rattle.delays.specs.Refusals.{first_loop, refusal_of}
 use Rattle.delays.proofs.Walks.{le-or-lt}

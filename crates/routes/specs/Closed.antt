@@ -3,8 +3,6 @@
 use Rattle.std.specs.Prelude.{Bool, true, ◌≡◌, List, ℕ, zero, suc, ◌+◌, ◌-◌, ◌<◌, ◌≤◌, ltb, leb, eqb, length, get_or, take}
 use Rattle.basis.specs.Choice.{pick, both}
 use Rattle.plans.specs.declared.Plan.{Plan}
-use Rattle.plans.specs.declared.Reading.{Reading}
-use Rattle.plans.specs.declared.Refusal.{Refusal}
 use Rattle.plans.specs.Reading.{reading_of}
 use Rattle.routes.specs.declared.Walk.{Walk}
 

@@ -3,7 +3,6 @@
 use Rattle.std.specs.Prelude.{Bool, ◌≡◌, ◌↔◌, List, ℕ, zero, suc, ◌+◌, ◌-◌, ◌<◌, ◌≤◌, ltb, eqb, length, get_or}
 use Rattle.basis.specs.Choice.{pick, not, both}
 use Rattle.plans.specs.declared.Plan.{Plan}
-use Rattle.plans.specs.declared.Reading.{Reading}
 use Rattle.plans.specs.declared.Refusal.{Refusal}
 use Rattle.plans.specs.Reading.{reading_of}
 use Rattle.delays.specs.Graph.{far, Walk as Path, EdgeOf, minimum_of}

@@ -3,8 +3,6 @@
 use Rattle.std.specs.Prelude.{Bool, ◌≡◌, ◌⊎◌, ◌↔◌, List, [], ◌∷◌, ℕ, suc, ◌+◌, ◌-◌, ◌<◌, ◌≤◌, eqb, get_or}
 use Rattle.basis.specs.Choice.{pick, not, both}
 use Rattle.plans.specs.declared.Plan.{Plan}
-use Rattle.plans.specs.declared.Reading.{Reading}
-use Rattle.plans.specs.declared.Refusal.{Refusal}
 use Rattle.plans.specs.Reading.{reading_of}
 use Rattle.delays.specs.Refusals.{refusal_of}
 use Rattle.routes.specs.declared.Walk.{Walk}

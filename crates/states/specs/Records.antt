@@ -1,9 +1,9 @@
 -- A member's record and a state, as the code holds them, and the session that they stand for.
 -- Assumes nothing.
-use Rattle.std.specs.Prelude.{ℕ, zero, suc, ◌+◌, ◌*◌, ◌-◌, Bool, true, false, List, [], ◌∷◌, ◌++◌, map, length, get_or, take, drop, replicate}
-use Rattle.states.specs.declared.Publication.TheVariants.{Unpublished, Published}
-use Rattle.states.specs.declared.Mark.TheVariants.{Unset, At}
-use Rattle.states.specs.declared.Limit.TheVariants.{Absent, Upto}
+use Rattle.std.specs.Prelude.{ℕ, false, replicate}
+use Rattle.states.specs.declared.Publication.TheVariants.{Unpublished}
+use Rattle.states.specs.declared.Mark.TheVariants.{Unset}
+use Rattle.states.specs.declared.Limit.TheVariants.{Absent}
 use Rattle.states.specs.declared.MemberState.{MemberState}
 use Rattle.states.specs.declared.State.{State}
 

@@ -1,20 +1,17 @@
 -- Earliest, horizon, bound, and when a grant is due. A rule reads the members as a function of their position.
 -- Assumes nothing.
-use Rattle.std.specs.Prelude.{ℕ, zero, suc, Bool, true, false, List, [], ◌∷◌, ltb, leb, eqb}
+use Rattle.std.specs.Prelude.{ℕ, zero, suc, Bool, true, false, ltb, eqb}
 use Rattle.basis.specs.Choice.{pick, not, both, either}
 use Rattle.tags.specs.declared.Tag.{Tag}
-use Rattle.tags.specs.declared.Tag.TheVariants.{Never, Finite, Forever}
+use Rattle.tags.specs.declared.Tag.TheVariants.{Never, Forever}
 use Rattle.tags.specs.Tags.{tag_le, tag_before, least_of, greatest_of, delayed, pred_of, less_of}
 use Rattle.plans.specs.Nets.{Net, none, downstream}
 use Rattle.transit.specs.Tags.{first_of}
-use Rattle.states.specs.declared.Next.{Next}
 use Rattle.states.specs.declared.Next.TheVariants.{Quiet, Event}
 use Rattle.states.specs.declared.Publication.{Publication}
 use Rattle.states.specs.declared.Publication.TheVariants.{Unpublished, Published}
 use Rattle.states.specs.declared.Mark.{Mark}
 use Rattle.states.specs.declared.Mark.TheVariants.{Unset, At}
-use Rattle.states.specs.declared.Limit.{Limit}
-use Rattle.states.specs.declared.Limit.TheVariants.{Absent, Upto}
 use Rattle.states.specs.Sessions.{Member, or_never}
 
 abbrev pub is_set : Mark → Bool

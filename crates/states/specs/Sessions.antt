@@ -1,12 +1,10 @@
 -- A session: its members in order, each with its tags in transit, the identity that they have to name, and what ended it.
 -- Assumes nothing.
-use Rattle.std.specs.Prelude.{ℕ, Bool, true, false, List, [], ◌∷◌, ◌++◌, get_or, set, replicate}
+use Rattle.std.specs.Prelude.{ℕ, Bool, true, false, List, [], get_or, set, replicate}
 use Rattle.tags.specs.declared.Tag.{Tag}
-use Rattle.tags.specs.declared.Tag.TheVariants.{Never, Finite, Forever}
-use Rattle.states.specs.declared.Next.{Next}
-use Rattle.states.specs.declared.Next.TheVariants.{Quiet, Event}
+use Rattle.tags.specs.declared.Tag.TheVariants.{Never}
 use Rattle.states.specs.declared.Publication.{Publication}
-use Rattle.states.specs.declared.Publication.TheVariants.{Unpublished, Published}
+use Rattle.states.specs.declared.Publication.TheVariants.{Unpublished}
 use Rattle.states.specs.declared.Mark.{Mark}
 use Rattle.states.specs.declared.Mark.TheVariants.{Unset, At}
 use Rattle.states.specs.declared.Limit.{Limit}

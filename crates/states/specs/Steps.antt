@@ -12,7 +12,7 @@ use Rattle.states.specs.declared.Next.TheVariants.{Quiet, Event}
 use Rattle.states.specs.declared.Publication.{Publication}
 use Rattle.states.specs.declared.Publication.TheVariants.{Unpublished, Published}
 use Rattle.states.specs.declared.Mark.{Mark}
-use Rattle.states.specs.declared.Mark.TheVariants.{Unset, At}
+use Rattle.states.specs.declared.Mark.TheVariants.{Unset}
 use Rattle.states.specs.declared.Limit.{Limit}
 use Rattle.states.specs.declared.Limit.TheVariants.{Absent, Upto}
 use Rattle.states.specs.declared.Request.{Request}

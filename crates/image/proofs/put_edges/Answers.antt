@@ -1,6 +1,5 @@
 use lib.ListN.{get_or}
 use Rattle.image.proofs.Rows.{length-edge}
-use Prim.Native.Nat.{◌-◌}
 use native.Mathlib.Omega.{arith}
 use Rattle.image.specs.Writing.{edges_bytes}
 use Rattle.image.proofs.Puts.{go-first, go-room, go_on, go-length, go-last}

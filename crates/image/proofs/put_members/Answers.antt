@@ -1,4 +1,3 @@
-use Prim.Native.Nat.{◌-◌}
 use mathlib.Core.Path.{refl}
 use native.Mathlib.Omega.{arith}
 use Rattle.image.specs.Writing.{summed, source_count, target_count, member_in, members_bytes}
@@ -37,13 +36,13 @@ loop-i-smaller c = omega arith
 pub loop-i-preserved : goal.loop-i-preserved
 unfolding member_in
 loop-i-preserved c = (
-      go_on c.loop-i.invariant.0 (omega arith)
-          (rw (← c.loop-i.invariant.1, ← c.source_count-dc.ensures, ← c.loop-i.invariant.2, ← c.source_count-tc.ensures, ← c.loop-i.invariant.3, ← c.target_count-wc.ensures)
-          c.put_member-next.ensures),
-      cc (summed-more (source_count c.args.dk.now c.args.n) c.loop-i.i),
-      cc (summed-more (source_count c.args.mk.now c.args.n) c.loop-i.i),
-      cc (summed-more (target_count c.args.mk.now c.args.n) c.loop-i.i),
-    )
+  go_on c.loop-i.invariant.0 (omega arith)
+      (rw (← c.loop-i.invariant.1, ← c.source_count-dc.ensures, ← c.loop-i.invariant.2, ← c.source_count-tc.ensures, ← c.loop-i.invariant.3, ← c.target_count-wc.ensures)
+      c.put_member-next.ensures),
+  cc (summed-more (source_count c.args.dk.now c.args.n) c.loop-i.i),
+  cc (summed-more (source_count c.args.mk.now c.args.n) c.loop-i.i),
+  cc (summed-more (target_count c.args.mk.now c.args.n) c.loop-i.i),
+)
 
 pub shape_of-out : goal.shape_of-out
 shape_of-out c = go-length c.loop-i.invariant.0 (omega arith)

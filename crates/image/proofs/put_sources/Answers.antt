@@ -1,4 +1,3 @@
-use Prim.Native.Nat.{◌-◌}
 use native.Mathlib.Omega.{arith}
 use Rattle.image.specs.Writing.{sources_bytes}
 use Rattle.image.proofs.Puts.{go-first, go-room, go_on, go-length, go-last}

@@ -6,4 +6,4 @@ use Rattle.kinds.proofs.keep.Goals as goal
 -- `kinds::keep` meets its contract.
 
 pub returns : goal.returns
-returns c = c.put.ensures ∙ ap (λ (y : MemberState). with_record c.args.t1 c.args.i y) c.changed.ensures
+returns c = c.put.ensures ∙ ap (λ (y : MemberState). with_record c.args.s c.args.i y) c.changed.ensures

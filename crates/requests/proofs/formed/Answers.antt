@@ -1,5 +1,7 @@
 use Rattle.requests.specs.Asking.{form_of}
 use borrow.Author.Tests.{ne_eqb}
+use mathlib.Core.Path.{◌≡◌}
+use native.Mathlib.Omega.{arith}
 use Rattle.requests.proofs.formed.Goals as goal
 
 pub returns-in-1 : goal.returns-in-1
@@ -32,4 +34,12 @@ returns-in-7 c = simp c.in-7.is c.bare-in-7.ensures
 
 pub returns-in_default : goal.returns-in_default
 unfolding form_of
-returns-in_default c = simp (ne_eqb _ _ c.in_default.rest.0.0.0.0.0.0.1, ne_eqb _ _ c.in_default.rest.0.0.0.0.0.1, ne_eqb _ _ c.in_default.rest.0.0.0.0.1, ne_eqb _ _ c.in_default.rest.0.0.0.1, ne_eqb _ _ c.in_default.rest.0.0.1, ne_eqb _ _ c.in_default.rest.0.1, ne_eqb _ _ c.in_default.rest.1)
+returns-in_default c =
+    let n1 : c.args.kind ≡ 1 → ⊥ = omega arith in
+    let n2 : c.args.kind ≡ 2 → ⊥ = omega arith in
+    let n3 : c.args.kind ≡ 3 → ⊥ = omega arith in
+    let n4 : c.args.kind ≡ 4 → ⊥ = omega arith in
+    let n5 : c.args.kind ≡ 5 → ⊥ = omega arith in
+    let n6 : c.args.kind ≡ 6 → ⊥ = omega arith in
+    let n7 : c.args.kind ≡ 7 → ⊥ = omega arith in
+    simp (ne_eqb _ _ n1, ne_eqb _ _ n2, ne_eqb _ _ n3, ne_eqb _ _ n4, ne_eqb _ _ n5, ne_eqb _ _ n6, ne_eqb _ _ n7)

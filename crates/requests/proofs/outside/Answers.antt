@@ -11,9 +11,5 @@ overflow_add-i c = omega (arith, kind-below c.args.q, phase-below c.args.p)
 pub offset_bounds-i : goal.offset_bounds-i
 offset_bounds-i c = omega (arith, kind-below c.args.q, phase-below c.args.p)
 
--- TODO no goal array-read-result
--- array-read-result : tie.Need-array-read-result
--- array-read-result c = omega (arith, kind-below c.before.before.args.q, phase-below c.before.before.args.p)
-
 pub returns : goal.returns
 returns c = rw (c.row.ensures, c.column.ensures) (rule c.args.q c.args.p)

@@ -17,7 +17,7 @@ well_formed-requires c = ((runs_of _ (λ i. (c.type_inv.plan i).fits) (open_free
 
 pub returns-then-not-well_formed : goal.returns-then-not-well_formed
 unfolding abort_refusal
-returns-then-not-well_formed c = else_next _ _ _ (sym c.open_refusal-r.ensures ∙ c.if-r-ne0.false) (else_holds _ 13 _ (ap not (sym c.before.well-formed-2.ensures ∙ c.if-not-well_formed.true)))
+returns-then-not-well_formed c = else_next _ _ _ (sym c.open_refusal-r.ensures ∙ c.if-r-ne0.false) (else_holds _ 13 _ (ap not (sym c.well_formed-2.ensures ∙ c.if-not-well_formed.true)))
 
 pub members-requires : goal.members-requires
 members-requires c = (runs_of _ (λ i. (c.type_inv.plan i).fits) (open_free _ _ (sym c.open_refusal-r.ensures ∙ c.if-r-ne0.false)).0).laid
@@ -33,8 +33,8 @@ overflow_mul-members-2 c = omega (arith, c.members.ensures, (runs_of _ (λ i. (c
 
 pub returns-then-room-members : goal.returns-then-room-members
 unfolding abort_refusal
-returns-then-room-members c = else_next _ _ _ (sym c.open_refusal-r.ensures ∙ c.if-r-ne0.false) (else_next _ _ _ (sym (when-not _ 14 (ap not (sym c.before.before.before.well-formed-2.ensures ∙ c.if-not-well_formed.false)))) (when-holds _ _ (lt-ltb _ _ (rw c.members.ensures at c.if-room-members.true))))
+returns-then-room-members c = else_next _ _ _ (sym c.open_refusal-r.ensures ∙ c.if-r-ne0.false) (else_next _ _ _ (sym (when-not _ 14 (ap not (sym c.well_formed-2.ensures ∙ c.if-not-well_formed.false)))) (when-holds _ _ (lt-ltb _ _ (rw c.members.ensures at c.if-room-members.true))))
 
 pub returns : goal.returns
 unfolding abort_refusal
-returns c = else_next _ _ _ (sym c.open_refusal-r.ensures ∙ c.if-r-ne0.false) (else_next _ _ _ (sym (when-not _ 14 (ap not (sym c.before.before.before.well-formed-2.ensures ∙ c.if-not-well_formed.false)))) (when-not _ 15 (le-ltb _ _ (rw c.members.ensures at c.if-room-members.false))))
+returns c = else_next _ _ _ (sym c.open_refusal-r.ensures ∙ c.if-r-ne0.false) (else_next _ _ _ (sym (when-not _ 14 (ap not (sym c.well_formed-2.ensures ∙ c.if-not-well_formed.false)))) (when-not _ 15 (le-ltb _ _ (rw c.members.ensures at c.if-room-members.false))))

@@ -7,13 +7,12 @@ use Rattle.steps.proofs.Ties.{fail-leaves, taken-leaves}
 use Rattle.steps.proofs.answer.Goals as goal
 
 pub accept-requires : goal.accept-requires
-accept-requires c = let s = c in
+accept-requires c =
     let free = sym c.refusal-refusal.ensures ∙ c.if-refusal-eq0.true in
-    (s.requires.0, s.requires.1, omega (arith, member-known _ _ s.args.member s.args.q free, net_count s.args.plan.now), free, s.requires.2, s.requires.3)
+    (c.requires.0, c.requires.1, omega (arith, member-known _ _ c.args.member c.args.q free, net_count c.args.plan.now), free, c.requires.2, c.requires.3)
 
 pub returns-then-refusal-eq0 : goal.returns-then-refusal-eq0
 returns-then-refusal-eq0 c = taken-leaves _ _ _ _ _ _ _ _ _ _ (sym c.refusal-refusal.ensures ∙ c.if-refusal-eq0.true) c.accept.ensures
 
 pub returns : goal.returns
-returns c = let s = c in
-    fail-leaves _ s.requires.0 s.args.s _ s.requires.1 (typed s.args.s _ s.well-formed.1.0) _ s.args.q _ _ _ _ _ _ _ c.refusal-refusal.ensures c.if-refusal-eq0.false c.code.ensures c.members.ensures c.fail.ensures
+returns c = fail-leaves _ c.requires.0 c.args.s _ c.requires.1 (typed c.args.s _ c.well_formed.1.0) _ c.args.q _ _ _ _ _ _ _ c.refusal-refusal.ensures c.if-refusal-eq0.false c.code.ensures c.members.ensures c.fail.ensures

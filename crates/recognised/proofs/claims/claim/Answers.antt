@@ -1,6 +1,5 @@
 use Rattle.recognised.proofs.Walks.{claimed_none, claimed_more, claimed_all}
 use mathlib.Core.Path.{◌≡◌, sym}
-use Prim.Native.Nat.{◌-◌}
 use borrow.Author.Count.{below_more}
 use Rattle.recognised.proofs.Cells.{tells_true, tells_false, never}
 use native.Mathlib.Omega.{arith}
@@ -30,8 +29,7 @@ loop-t-smaller c = omega arith
 
 pub loop-t-preserved : goal.loop-t-preserved
 loop-t-preserved c = let l = c.loop-t in
-    let r = c.claim_member in
-    (
+    let r = c.claim_member in (
       omega arith,
       omega arith,
       omega arith,

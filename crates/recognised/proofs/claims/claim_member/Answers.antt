@@ -21,6 +21,6 @@ returns c = record {
   };
   filled = λ e. filled_of c.args.plan.now c.args.t c.number-place.result c.in_member-first.result c.in_member-count.result c.args.n (omega arith) c.in_member-first.ensures c.in_member-count.ensures c.requires.3 _ _ _ _ (c.claim_rows.ensures.filled e);
   plain = λ e h P.
-        let z = c.number-place.ensures ∙ c.requires.2.transitive-place in
-        c.claim_rows.ensures.plain e (λ q l. rw z (h _ (omega arith))) P;
+      let z = c.number-place.ensures ∙ c.requires.2.transitive-place in
+      c.claim_rows.ensures.plain e (λ q l. rw z (h _ (omega arith))) P;
 }

@@ -3,7 +3,6 @@ use Rattle.recognised.proofs.Cells.{tells_true, tells_false, never}
 use Rattle.recognised.proofs.Words.{plains-set}
 use lib.ListN.{length-set}
 use mathlib.Core.Path.{◌≡◌, sym}
-use Prim.Native.Nat.{◌-◌}
 use borrow.Author.Count.{below_more}
 use native.Mathlib.Omega.{arith}
 use Rattle.recognised.proofs.claims.claim_rows.Goals as goal
@@ -56,13 +55,13 @@ loop-q-smaller c = omega arith
 
 pub loop-q-preserved : goal.loop-q-preserved
 loop-q-preserved c = let l = c.loop-q in (
-      simp length-set (omega arith),
-      simp length-set (omega arith),
-      omega arith,
-      below_more _ _ l.invariant.3 (omega arith),
-      filled_more _ _ c.args.k c.args.t c.requires.2 _ _ l.kind l.value l.q _ _ (omega arith) (omega arith) (omega arith) (omega arith) (sym c.in_source-s.ensures) (sym c.wide_in_source-d.ensures) l.invariant.4,
-      λ h P. plains-set _ _ _ _ (omega arith) (omega arith) (omega arith) (omega (arith, h l.q (omega arith))) (l.invariant.5 (λ x y. h x (omega arith)) P),
-    )
+  simp length-set (omega arith),
+  simp length-set (omega arith),
+  omega arith,
+  below_more _ _ l.invariant.3 (omega arith),
+  filled_more _ _ c.args.k c.args.t c.requires.2 _ _ l.kind l.value l.q _ _ (omega arith) (omega arith) (omega arith) (omega arith) (sym c.in_source-s.ensures) (sym c.wide_in_source-d.ensures) l.invariant.4,
+  λ h P. plains-set _ _ _ _ (omega arith) (omega arith) (omega arith) (omega (arith, h l.q (omega arith))) (l.invariant.5 (λ x y. h x (omega arith)) P),
+)
 
 pub shape_of-kind : goal.shape_of-kind
 shape_of-kind c = omega arith

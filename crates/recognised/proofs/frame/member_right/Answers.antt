@@ -14,6 +14,6 @@ returns-then-i-eq0 c = tells_true (record { after = λ h. absurd (omega arith); 
 
 pub returns : goal.returns
 returns c = record {
-      right = λ e. record { after = λ h. omega (arith, ltb-true); small = omega arith; zero = omega arith };
-      wrong = λ e P. absurd (omega (arith, ltb-false, P.after (omega arith)));
-    }
+  right = λ e. record { after = λ h. omega (arith, ltb-true); small = omega arith; zero = omega arith };
+  wrong = λ e P. absurd (omega (arith, ltb-false, P.after (omega arith)));
+}

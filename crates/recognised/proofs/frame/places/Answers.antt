@@ -23,6 +23,6 @@ returns-then-number-total c = tells_false (λ P. omega arith)
 
 pub returns : goal.returns
 returns c = record {
-      right = λ e. record { member-place = omega arith; edge-place = omega arith; direct-place = omega arith; transitive-place = omega arith; downstream-place = omega arith; end = omega arith; whole = omega (arith, eqb-true) };
-      wrong = λ e P. omega (arith, eqb-false);
-    }
+  right = λ e. record { member-place = omega arith; edge-place = omega arith; direct-place = omega arith; transitive-place = omega arith; downstream-place = omega arith; end = omega arith; whole = omega (arith, eqb-true) };
+  wrong = λ e P. omega (arith, eqb-false);
+}

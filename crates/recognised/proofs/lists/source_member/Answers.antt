@@ -27,6 +27,6 @@ source_rows-requires c = omega arith
 
 pub returns : goal.returns
 returns c = record {
-      right = λ e. (rw (← c.in_member-c.ensures) (rowed_of c.args.plan.now c.args.kind.now c.args.value.now c.args.place c.args.k c.args.t (λ i. (c.type_inv.value i).fits) c.args.n (field 4 48 40 c.args.offset c.args.t c.args.plan.now) c.in_member-c.result (omega arith) (c.source_rows.ensures.right e)), omega arith);
-      wrong = λ e P. c.source_rows.ensures.wrong e (whole_of c.args.plan.now c.args.kind.now c.args.value.now c.args.place c.args.k c.args.t (λ i. (c.type_inv.value i).fits) c.args.n (field 4 48 40 c.args.offset c.args.t c.args.plan.now) c.in_member-c.result (rw c.in_member-c.ensures P.0));
-    }
+  right = λ e. (rw (← c.in_member-c.ensures) (rowed_of c.args.plan.now c.args.kind.now c.args.value.now c.args.place c.args.k c.args.t (λ i. (c.type_inv.value i).fits) c.args.n (field 4 48 40 c.args.offset c.args.t c.args.plan.now) c.in_member-c.result (omega arith) (c.source_rows.ensures.right e)), omega arith);
+  wrong = λ e P. c.source_rows.ensures.wrong e (whole_of c.args.plan.now c.args.kind.now c.args.value.now c.args.place c.args.k c.args.t (λ i. (c.type_inv.value i).fits) c.args.n (field 4 48 40 c.args.offset c.args.t c.args.plan.now) c.in_member-c.result (rw c.in_member-c.ensures P.0));
+}

@@ -1,9 +1,8 @@
 use Rattle.recognised.proofs.Walks.{sources-none, sources-held, sources-skip, sources-row, whole_same}
 use Rattle.recognised.proofs.Cells.{tells_false}
-use Rattle.image.specs.Image.{source_row}
 use borrow.Author.Tests.{eqb-true, eqb-false}
 use mathlib.Core.Path.{◌≡◌}
-use Prim.Native.Nat.{◌+◌, ◌-◌}
+use Prim.Native.Nat.{◌+◌}
 use native.Mathlib.Omega.{arith}
 use Rattle.recognised.proofs.lists.source_rows.Goals as goal
 use Rattle.recognised.proofs.lists.source_rows.Goals.{then-kind-p-eq0+else-q-c+else-not-source_row, else-kind-p-eq0}
@@ -52,10 +51,10 @@ loop-s-smaller c = omega arith
 pub loop-s-preserved : goal.loop-s-preserved
 loop-s-preserved c = let l = c.loop-s in
     elim c.if-kind-p-eq0.branch [
-      then-kind-p-eq0+else-q-c+else-not-source_row w ↦ let e : c.if-kind-p-eq0.q ≡ l.q + 1 = omega arith in
-        (omega arith, omega arith, rw e (sources-held c.args.plan.now c.args.kind.now c.args.value.now c.args.place c.args.k c.args.t (λ i. (c.type_inv.value i).fits) l.s l.q w.if-kind-p-eq0.true (w.source_row.ensures.right w.if-not-source_row.false) l.invariant.2))
-    | else-kind-p-eq0 w ↦ let e : c.if-kind-p-eq0.q ≡ l.q = omega arith in
-        (omega arith, omega arith, rw e (sources-skip c.args.plan.now c.args.kind.now c.args.value.now c.args.place c.args.k c.args.t (λ i. (c.type_inv.value i).fits) l.s l.q w.if-kind-p-eq0.false l.invariant.2))
+      | then-kind-p-eq0+else-q-c+else-not-source_row w ↦ let e : c.if-kind-p-eq0.q ≡ l.q + 1 = omega arith in
+          (omega arith, omega arith, rw e (sources-held c.args.plan.now c.args.kind.now c.args.value.now c.args.place c.args.k c.args.t (λ i. (c.type_inv.value i).fits) l.s l.q w.if-kind-p-eq0.true (w.source_row.ensures.right w.if-not-source_row.false) l.invariant.2))
+      | else-kind-p-eq0 w ↦ let e : c.if-kind-p-eq0.q ≡ l.q = omega arith in
+          (omega arith, omega arith, rw e (sources-skip c.args.plan.now c.args.kind.now c.args.value.now c.args.place c.args.k c.args.t (λ i. (c.type_inv.value i).fits) l.s l.q w.if-kind-p-eq0.false l.invariant.2))
     ]
 
 pub returns : goal.returns

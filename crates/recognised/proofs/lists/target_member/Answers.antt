@@ -26,6 +26,6 @@ target_rows-requires c = omega arith
 
 pub returns : goal.returns
 returns c = record {
-      right = λ e. (rw (← c.in_member-c.ensures) (rowed_on c.args.plan.now c.args.place c.args.k (onward (grid c.args.kind.now c.args.value.now) c.args.s) c.args.n (downstream_first c.args.plan.now c.args.s) c.in_member-c.result (omega arith) (c.target_rows.ensures.right e)), omega arith);
-      wrong = λ e P. c.target_rows.ensures.wrong e (whole-on c.args.plan.now c.args.place c.args.k (onward (grid c.args.kind.now c.args.value.now) c.args.s) c.args.n (downstream_first c.args.plan.now c.args.s) c.in_member-c.result (rw c.in_member-c.ensures P.0));
-    }
+  right = λ e. (rw (← c.in_member-c.ensures) (rowed_on c.args.plan.now c.args.place c.args.k (onward (grid c.args.kind.now c.args.value.now) c.args.s) c.args.n (downstream_first c.args.plan.now c.args.s) c.in_member-c.result (omega arith) (c.target_rows.ensures.right e)), omega arith);
+  wrong = λ e P. c.target_rows.ensures.wrong e (whole-on c.args.plan.now c.args.place c.args.k (onward (grid c.args.kind.now c.args.value.now) c.args.s) c.args.n (downstream_first c.args.plan.now c.args.s) c.in_member-c.result (rw c.in_member-c.ensures P.0));
+}

@@ -1,11 +1,10 @@
 use Rattle.recognised.proofs.Walks.{targets-none, targets-held, targets-skip, targets-row, whole_same}
 use Rattle.recognised.proofs.Cells.{tells_false}
 use Rattle.recognised.specs.Walks.{onward}
-use Rattle.image.specs.Image.{target_row}
 use Rattle.delays.specs.Cells.{grid}
 use borrow.Author.Tests.{eqb-true, eqb-false}
 use mathlib.Core.Path.{◌≡◌, sym, ◌∙◌}
-use Prim.Native.Nat.{◌+◌, ◌-◌}
+use Prim.Native.Nat.{◌+◌}
 use native.Mathlib.Omega.{arith}
 use Rattle.recognised.proofs.lists.target_rows.Goals as goal
 use Rattle.recognised.proofs.lists.target_rows.Goals.{then-leads+else-q-c+else-not-target_row, else-leads}
@@ -42,10 +41,10 @@ loop-t-smaller c = omega arith
 pub loop-t-preserved : goal.loop-t-preserved
 loop-t-preserved c = let l = c.loop-t in
     elim c.if-leads.branch [
-      then-leads+else-q-c+else-not-target_row w ↦ let e : c.if-leads.q ≡ l.q + 1 = omega arith in
-        (omega arith, omega arith, rw e (targets-held c.args.plan.now c.args.place c.args.k (onward (grid c.args.kind.now c.args.value.now) c.args.s) l.t l.q (sym c.leads.ensures ∙ w.if-leads.true) (w.target_row.ensures.right w.if-not-target_row.false) l.invariant.2))
-    | else-leads w ↦ let e : c.if-leads.q ≡ l.q = omega arith in
-        (omega arith, omega arith, rw e (targets-skip c.args.plan.now c.args.place c.args.k (onward (grid c.args.kind.now c.args.value.now) c.args.s) l.t l.q (sym c.leads.ensures ∙ w.if-leads.false) l.invariant.2))
+      | then-leads+else-q-c+else-not-target_row w ↦ let e : c.if-leads.q ≡ l.q + 1 = omega arith in
+          (omega arith, omega arith, rw e (targets-held c.args.plan.now c.args.place c.args.k (onward (grid c.args.kind.now c.args.value.now) c.args.s) l.t l.q (sym c.leads.ensures ∙ w.if-leads.true) (w.target_row.ensures.right w.if-not-target_row.false) l.invariant.2))
+      | else-leads w ↦ let e : c.if-leads.q ≡ l.q = omega arith in
+          (omega arith, omega arith, rw e (targets-skip c.args.plan.now c.args.place c.args.k (onward (grid c.args.kind.now c.args.value.now) c.args.s) l.t l.q (sym c.leads.ensures ∙ w.if-leads.false) l.invariant.2))
     ]
 
 pub returns : goal.returns

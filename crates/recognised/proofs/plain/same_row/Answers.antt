@@ -1,4 +1,3 @@
-use Prim.Native.Nat.{◌-◌}
 use mathlib.Core.Path.{◌≡◌}
 use borrow.Author.Tests.{eqb-true, eqb-false}
 use borrow.Author.Count.{below_more}
@@ -36,8 +35,8 @@ loop-t-smaller c = omega arith
 pub loop-t-preserved : goal.loop-t-preserved
 loop-t-preserved c = let l = c.loop-t in
     elim c.if-out-p.branch [
-      then-out-p w ↦ let e : c.if-out-p.wrong ≡ 1 = omega arith in (omega arith, λ z. absurd (omega arith), λ z all. absurd (omega (arith, all l.t (omega arith))))
-    | else-out-p w ↦ let e : c.if-out-p.wrong ≡ l.wrong = omega arith in (omega arith, λ z. below_more _ _ (l.invariant.1 (omega arith)) (omega arith), λ z all. l.invariant.2 (omega arith) (λ x h. all x (omega arith)))
+      | then-out-p w ↦ let e : c.if-out-p.wrong ≡ 1 = omega arith in (omega arith, λ z. absurd (omega arith), λ z all. absurd (omega (arith, all l.t (omega arith))))
+      | else-out-p w ↦ let e : c.if-out-p.wrong ≡ l.wrong = omega arith in (omega arith, λ z. below_more _ _ (l.invariant.1 (omega arith)) (omega arith), λ z all. l.invariant.2 (omega arith) (λ x h. all x (omega arith)))
     ]
 
 pub returns : goal.returns

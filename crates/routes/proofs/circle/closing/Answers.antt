@@ -1,9 +1,6 @@
-use Prim.Native.Nat.{◌-◌}
-use mathlib.Core.Bool.{true}
 use mathlib.Core.Path.{◌≡◌, refl, sym, ◌∙◌}
 use native.Mathlib.Omega.{arith}
-use borrow.Author.Tests.{not-true, not-false}
-use Rattle.routes.specs.Closed.{every, goes_on, closing}
+use Rattle.routes.specs.Closed.{every, closing}
 use Rattle.routes.proofs.Every.{every_more, every-stop}
 use Rattle.routes.proofs.Closed.{after-below}
 use Rattle.routes.proofs.circle.closing.Goals as goal

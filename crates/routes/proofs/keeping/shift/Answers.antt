@@ -1,6 +1,5 @@
 use mathlib.Core.Path.{◌≡◌, refl}
 use native.Mathlib.Omega.{arith}
-use Prim.Native.Nat.{◌-◌}
 use lib.ListN.{length-set}
 use Rattle.routes.proofs.Trails.{moved_none, moved_more}
 use Rattle.routes.proofs.keeping.shift.Goals as goal

@@ -1,8 +1,6 @@
 use mathlib.Core.Path.{◌≡◌, sym, ◌∙◌}
 use native.Mathlib.Omega.{arith}
-use Prim.Native.Nat.{◌-◌}
 use Rattle.delays.proofs.Search.{first-start, first-here, first_on, first-end}
-use Rattle.routes.specs.Paths.{enters}
 use Rattle.routes.proofs.marking.entering.Goals as goal
 
 pub loop-e-init : goal.loop-e-init

@@ -1,6 +1,5 @@
 use mathlib.Core.Path.{◌≡◌, refl}
 use native.Mathlib.Omega.{arith}
-use Prim.Native.Nat.{◌-◌}
 use lib.ListN.{length-set}
 use Rattle.routes.proofs.Marks.{marked-none, marked_more}
 use Rattle.routes.proofs.marking.mark.Goals as goal
