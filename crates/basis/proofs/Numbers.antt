@@ -1,12 +1,12 @@
 -- Little-endian numbers: both ways, over any width.
 -- Assumes nothing.
-use Prim.Native.Nat.{ℕ, zero, suc, ◌+◌, ◌*◌, ◌/◌, ◌%◌, ◌-◌, ◌^◌, ◌<◌, ◌≤◌}
+use Prim.Native.Nat.{ℕ, zero, suc, ◌+◌, ◌*◌, ◌/◌, ◌%◌, ◌^◌, ◌<◌, ◌≤◌}
 use mathlib.Core.Path.{◌≡◌, refl, sym, ap, ◌∙◌}
-use mathlib.Core.List.{List, [], ◌∷◌, ◌++◌, append_assoc}
+use mathlib.Core.List.{List, [], ◌∷◌, ◌++◌}
 use native.Mathlib.Omega.{arith}
 use native.Mathlib.Numerals.{add-one}
 use native.Mathlib.Nat.{pow-zero, pow-succ', mul_assoc, div-div-eq-div-mul, div-one, div-add-mod, suc-add, zero-add, one-mul}
-use lib.ListN.{length, get_or, set, take, drop, length-append, length-drop, length-set}
+use lib.ListN.{length, get_or, set, take, drop, length-drop, length-set}
 use lib.Seq.{drop-cons, take-add, drop-drop, length-take-le}
 use Rattle.basis.specs.Numbers.{bytes, number, number_at}
 use Rattle.basis.specs.Parts.{part, replaced}

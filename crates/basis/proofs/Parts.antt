@@ -1,13 +1,13 @@
 -- A part replaced: what is there now, and that every other element is as it was. The width is a variable throughout.
 -- Assumes nothing.
-use Prim.Native.Nat.{ℕ, zero, suc, ◌+◌, ◌-◌, ◌<◌, ◌≤◌}
+use Prim.Native.Nat.{ℕ, suc, ◌+◌, ◌-◌, ◌<◌, ◌≤◌}
 use mathlib.Core.Path.{◌≡◌, refl, sym, ap, ◌∙◌}
 use mathlib.Core.List.{List, [], ◌∷◌, ◌++◌, append_assoc}
 use native.Mathlib.Omega.{arith}
 use native.Mathlib.Numerals.{add-one}
-use native.Mathlib.Nat.{suc-add, add-suc, add-zero, add-sub_of_le}
-use lib.ListN.{length, get_or, set, take, drop, length-append, length-take, length-drop, length-set, take-append-drop, get_or-append}
-use lib.Seq.{length-take-le, take-append-le, drop-append-le, take-append-add, drop-append-add, get_or-append-add, take_at, drop_at, take-take, drop-drop, take-add, set_split, get_or-take, get_or-drop, take-set-le, drop-set-lt, take-suc-set}
+use native.Mathlib.Nat.{suc-add, add-suc, add-zero}
+use lib.ListN.{length, get_or, set, take, drop, length-append, length-drop, take-append-drop, get_or-append}
+use lib.Seq.{length-take-le, take-append-le, drop-append-le, drop-append-add, take_at, drop_at, drop-drop, get_or-take, get_or-drop, drop-set-lt, take-suc-set}
 use Rattle.basis.specs.Parts.{part, replaced}
 
 module _ {A : Type 0} where

@@ -3,6 +3,8 @@ ghost use Rattle.std.specs.Prelude.{◌≤◌};
 
 use crate::workload::REQUEST;
 use states::State;
+use std::io;
+use std::time::{CpuClock, Duration};
 
 // How often a pass compiles the plan, and how often it recognises the compiled plan.
 pub const COMPILES: usize = 100;
@@ -36,19 +38,22 @@ pub struct Times {
     pub looks: u64,
 }
 
-// A number that is not negative; 0 for one that is.
-fn counted(c: i64) -> u64 {
-    if c > 0 { c as u64 } else { 0 }
+// The microseconds of a time; 0 of one that could not be told.
+fn counted(time: io::Result<Duration>) -> u64 {
+    match time {
+        Ok(t) => u64::try_from(t.as_micros()).unwrap_or(u64::MAX),
+        Err(_) => 0,
+    }
 }
 
 // The processor time that the program has taken, in microseconds.
-fn clock() -> u64 {
-    counted(libc::clock())
+fn clock(rt: &impl CpuClock) -> u64 {
+    counted(rt.process_cpu_time())
 }
 
 // The processor time since then.
-fn since(start: u64) -> u64 {
-    let end = clock();
+fn since(rt: &impl CpuClock, start: u64) -> u64 {
+    let end = clock(rt);
     if start < end { end - start } else { 0 }
 }
 
@@ -99,8 +104,8 @@ fn ask(
         let a = rti::handle(plan, state, slab, &requests[at..end], deliveries);
         let next = a.state;
         state = next;
-        refused = std::num::wrapping_add_u64(refused, a.refusal);
-        sent = std::num::wrapping_add_u64(sent, a.count as u64);
+        refused = refused.wrapping_add(a.refusal);
+        sent = sent.wrapping_add(a.count as u64);
         digest = listened(listens, deliveries, a.count, digest);
         at = end;
     }
@@ -136,6 +141,7 @@ fn started(
 
 // One session: the requests that it starts with, then the steady ones.
 pub fn session(
+    rt: &impl CpuClock,
     plan: &[u8],
     identity: u64,
     start: &[u64],
@@ -145,21 +151,21 @@ pub fn session(
     listens: bool,
 ) -> Heard {
     let before = started(plan, identity, start, slab, deliveries, listens);
-    let begin = clock();
+    let begin = clock(rt);
     let mut h = ask(plan, steady, slab, deliveries, listens, before);
-    h.time = since(begin);
+    h.time = since(rt, begin);
     h
 }
 
 // The time of compiling so many times.
-fn compile(bytes: &[u8], image: &mut [u8]) -> u64 {
-    let start = clock();
+fn compile(rt: &impl CpuClock, bytes: &[u8], image: &mut [u8]) -> u64 {
+    let start = clock(rt);
     let mut k: usize = 0;
     while k < COMPILES {
         image::compile(bytes, image);
         k += 1;
     }
-    since(start)
+    since(rt, start)
 }
 
 // How many bytes are recognised next: after a refusal none.
@@ -170,8 +176,8 @@ fn kept(refusal: u64, size: usize) -> usize
 }
 
 // The time of recognising so many times; each turn waits for the answer of the one before.
-fn look(plan: &[u8]) -> u64 {
-    let start = clock();
+fn look(rt: &impl CpuClock, plan: &[u8]) -> u64 {
+    let start = clock(rt);
     let mut size = plan.len();
     let mut k: usize = 0;
     while k < LOOKS {
@@ -179,7 +185,7 @@ fn look(plan: &[u8]) -> u64 {
         size = kept(r, size);
         k += 1;
     }
-    since(start)
+    since(rt, start)
 }
 
 // The lesser times.
@@ -193,6 +199,7 @@ fn least(a: Times, b: Times) -> Times {
 
 // One pass: the plan is compiled and recognised, and a session run on it.
 fn pass(
+    rt: &impl CpuClock,
     bytes: &[u8],
     plan: &mut [u8],
     identity: u64,
@@ -201,9 +208,9 @@ fn pass(
     slab: &mut [u64],
     deliveries: &mut [u64],
 ) -> Times {
-    let compiles = compile(bytes, plan);
-    let looks = look(plan);
-    let h = session(plan, identity, start, steady, slab, deliveries, false);
+    let compiles = compile(rt, bytes, plan);
+    let looks = look(rt, plan);
+    let h = session(rt, plan, identity, start, steady, slab, deliveries, false);
     Times {
         requests: h.time,
         compiles,
@@ -213,6 +220,7 @@ fn pass(
 
 // The least times of so many passes over a plan, its compiled plan, and requests.
 pub fn passes(
+    rt: &impl CpuClock,
     count: u64,
     bytes: &[u8],
     plan: &mut [u8],
@@ -229,7 +237,7 @@ pub fn passes(
     };
     let mut left = count;
     while 0 < left {
-        let p = pass(bytes, plan, identity, start, steady, slab, deliveries);
+        let p = pass(rt, bytes, plan, identity, start, steady, slab, deliveries);
         t = least(t, p);
         left -= 1;
     }

@@ -1,6 +1,7 @@
 // A workload as it is read: the script's lines `plan`, `open` and `request`, and `# steady` before the requests that count.
 ghost use Rattle.std.specs.Prelude.{◌≤◌, length};
 
+use std::io::Read;
 use text::{Found, WINDOW, Window};
 
 // The words of a request.
@@ -64,19 +65,19 @@ fn number(line: &[u8], from: usize) -> u64 {
 fn told(line: &[u8], bytes: &mut [u8], requests: &mut [u64], mut w: Work) -> Work {
     let end = text::word_end(line, 0);
     let name = &line[0..end];
-    if check::same(name, b"plan") {
+    if name == b"plan".as_slice() {
         return plan(line, end, bytes, w);
     }
-    if check::same(name, b"request") {
+    if name == b"request".as_slice() {
         return request(line, end, requests, w);
     }
-    if check::same(name, b"open") {
+    if name == b"open".as_slice() {
         w.identity = number(line, end);
     }
-    if check::same(name, b"passes") {
+    if name == b"passes".as_slice() {
         w.passes = number(line, end);
     }
-    if check::same(line, b"# steady") {
+    if line == b"# steady".as_slice() {
         w.steady = w.words;
     }
     w
@@ -97,8 +98,14 @@ fn told_at(
 }
 
 // One line more.
-fn turned(buf: &mut [u8; WINDOW], bytes: &mut [u8], requests: &mut [u64], t: Turn) -> Turn {
-    let l = text::next_line(buf, t.window);
+fn turned(
+    input: &mut impl Read,
+    buf: &mut [u8; WINDOW],
+    bytes: &mut [u8],
+    requests: &mut [u64],
+    t: Turn,
+) -> Turn {
+    let l = text::next_line(input, buf, t.window);
     let window = l.window;
     let found = l.found;
     let start = l.start;
@@ -127,7 +134,7 @@ fn turned(buf: &mut [u8; WINDOW], bytes: &mut [u8], requests: &mut [u64], t: Tur
 }
 
 // Reads the workload on standard input.
-pub fn read(bytes: &mut [u8], requests: &mut [u64]) -> Work {
+pub fn read(input: &mut impl Read, bytes: &mut [u8], requests: &mut [u64]) -> Work {
     let mut buf = [0u8; WINDOW];
     let window = Window {
         start: 0,
@@ -148,7 +155,7 @@ pub fn read(bytes: &mut [u8], requests: &mut [u64]) -> Work {
     };
     let mut turns = u64::MAX;
     while 0 < turns && t.more {
-        t = turned(&mut buf, bytes, requests, t);
+        t = turned(input, &mut buf, bytes, requests, t);
         turns -= 1;
     }
     t.work

@@ -1,15 +1,14 @@
 -- The bits of a mask.
 -- Assumes nothing.
 use mathlib.Core.Bool.{Bool, true, false}
-use mathlib.Core.Path.{◌≡◌, refl, sym, ap, subst, ◌∙◌}
-use mathlib.Core.Logic.{◌⊎◌, ⊎_elim, inl, inr}
+use mathlib.Core.Path.{◌≡◌, refl, ap, ◌∙◌}
+use mathlib.Core.Logic.{⊎_elim}
 use Prim.Native.Nat.{ℕ, zero, suc, ◌+◌, ◌-◌, ◌*◌, ◌/◌, ◌%◌, ◌<◌, ◌≤◌, ◌^◌}
 use native.Mathlib.Omega.{arith}
 use native.Mathlib.Nat.{eq-or-lt_of_le, le_of_suc-le-suc, pow-suc, pow-le-pow_right, div-eq_of_lt, add-div_right, add-mul-div_right}
 use lib.Pow.{pow_pos, pow-add}
 use Rattle.basis.specs.Choice.{pick}
 use Rattle.delays.specs.Search.{mask_of}
-use Rattle.delays.proofs.Walks.{le-or-lt}
 use Rattle.delays.proofs.Search.{mask-small}
 
 -- bit j of a mask

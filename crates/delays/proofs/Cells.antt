@@ -2,7 +2,7 @@
 -- Assumes nothing.
 use mathlib.Core.Bool.{true, false}
 use mathlib.Core.Path.{◌≡◌, refl, sym, subst, ◌∙◌}
-use mathlib.Core.Logic.{◌≢◌, ◌⊎◌, ⊎_elim, inl, inr}
+use mathlib.Core.Logic.{◌⊎◌, ⊎_elim, inl, inr}
 use mathlib.Core.List.{List}
 use Prim.Native.Nat.{ℕ, ◌+◌, ◌*◌, ◌/◌, ◌%◌, ◌<◌, ◌≤◌, min}
 use native.Mathlib.Nat.{eq-or-lt_of_le}
@@ -13,8 +13,8 @@ use lib.Seq.{get_or-set_same, get_or-set_other, ext_get_or}
 use native.Mathlib.Omega.{arith}
 use borrow.Author.Tests.{eq-eqb, ne_eqb, lt-ltb, le-ltb, le-leb, lt-leb}
 use Rattle.basis.specs.Choice.{pick}
-use Rattle.delays.specs.Graph.{far, none, plus, next, via, reach_of}
-use Rattle.delays.specs.Cells.{cell, dist_of, kind_of, word_of, Plain, Tidy, entry, grid, Holds, Held, Relaxed, Offered, Cleared, Inside}
+use Rattle.delays.specs.Graph.{far, none, plus, reach_of}
+use Rattle.delays.specs.Cells.{cell, kind_of, word_of, Plain, Tidy, entry, grid, Holds, Held, Relaxed, Offered, Cleared, Inside}
 use Rattle.delays.proofs.Walks.{le-or-lt, of-near, of-far, of_none, Size, near, just, past, size}
 use Rattle.delays.specs.declared.Reach.TheVariants.{At, TooFar, None}
 

@@ -1,11 +1,11 @@
 -- Cycles of no delay: which members lie on one, and the strong component of the first.
 -- Assumes nothing.
-use mathlib.Core.Path.{◌≡◌, refl, sym, subst}
+use mathlib.Core.Path.{◌≡◌, subst}
 use mathlib.Core.Logic.{◌↔◌}
 use mathlib.Core.List.{List}
-use Prim.Native.Nat.{ℕ, ◌+◌, ◌<◌, ◌≤◌, min}
+use Prim.Native.Nat.{ℕ, ◌+◌}
 use native.Mathlib.Omega.{arith}
-use Rattle.delays.specs.Graph.{far, Walk, last, then, via, Edge, direct}
+use Rattle.delays.specs.Graph.{Walk, last, then, via, Edge, direct}
 use Rattle.delays.proofs.Walks.{Least, Edges, least-delay}
 
 -- a walk of one or more edges, each of no delay

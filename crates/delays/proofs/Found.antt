@@ -1,13 +1,12 @@
 -- What the refusals mean: 8 exactly if there is a closed walk of no delay, 9 exactly if there is none and a minimum is too far.
 -- Assumes nothing.
-use mathlib.Core.Bool.{Bool, true, false}
 use mathlib.Core.Path.{◌≡◌, refl, sym, ap, ◌∙◌}
 use mathlib.Core.Logic.{◌⊎◌, ⊎_elim, inl, inr, ◌↔◌, ◌≢◌}
 use mathlib.Core.List.{List}
-use Prim.Native.Nat.{ℕ, ◌+◌, ◌<◌, ◌≤◌, ◌^◌}
+use Prim.Native.Nat.{ℕ, ◌<◌, ◌≤◌, ◌^◌}
 use native.Mathlib.Omega.{arith}
 use native.Mathlib.Decide.{ℕ_discrete}
-use borrow.Author.Tests.{ltb-true, ltb-false, lt-ltb, le-ltb, eqb-true, eqb-false, eq-eqb, ne_eqb}
+use borrow.Author.Tests.{ltb-false, lt-ltb, le-ltb, eqb-true, eqb-false, eq-eqb, ne_eqb}
 use lib.Dec.{ltb, eqb}
 use lib.ListN.{get_or}
 use lib.Pow.{pow_mono}
@@ -15,11 +14,10 @@ use Rattle.basis.specs.Choice.{pick, both}
 use Rattle.plans.specs.declared.Plan.{Plan}
 use Rattle.plans.specs.declared.Refusal.{Refusal}
 use Rattle.plans.specs.Values.{Fits}
-use Rattle.delays.specs.Graph.{far, none, via, Edge, EdgeOf, direct_of, minimum_of}
-use Rattle.delays.specs.Search.{first, mask_of}
+use Rattle.delays.specs.Graph.{far, EdgeOf, minimum_of}
 use Rattle.delays.specs.Refusals.{accepted, zero_cycle, too_far_from, first_loop, linked_by, component_of, cycle_of, far_target, far_source, far_of, or_else, judged, refusal_of}
 use Rattle.delays.proofs.Walks.{le-or-lt}
-use Rattle.delays.proofs.Search.{first-within, first-hit, first-least, mask-small}
+use Rattle.delays.proofs.Search.{first-hit, first-least, mask-small}
 use Rattle.delays.proofs.Bits.{bit_of, mask-bit, mask-past}
 use Rattle.delays.proofs.Cycles.{Quick, hop, hop-on, Linked, Cycles}
 use Rattle.delays.proofs.Refusals.{target_in}

@@ -1,20 +1,20 @@
 -- Laws of the lists: a place is in exactly if it passes, places ascend, and no list is longer than the members.
 -- Assumes nothing.
 use mathlib.Core.Bool.{Bool, true, false}
-use mathlib.Core.Path.{◌≡◌, refl, sym, ap, ◌∙◌}
+use mathlib.Core.Path.{◌≡◌, refl, ap, ◌∙◌}
 use mathlib.Core.Logic.{◌⊎◌, ⊎_elim, inl, inr, ◌↔◌, ◌≢◌}
 use mathlib.Core.List.{List, [], ◌∷◌, ◌++◌, append-nil}
-use Prim.Native.Nat.{ℕ, zero, suc, ◌+◌, ◌<◌, ◌≤◌}
+use Prim.Native.Nat.{ℕ, zero, suc, ◌<◌, ◌≤◌}
 use native.Mathlib.Omega.{arith}
 use native.Mathlib.Nat.{eq-or-lt_of_le}
 use native.Mathlib.Decide.{ℕ_discrete}
-use borrow.Author.Tests.{ltb-true, lt-ltb, eqb-true, eq-eqb, ne_eqb}
+use borrow.Author.Tests.{ltb-true, lt-ltb, eq-eqb, ne_eqb}
 use lib.Dec.{ltb, eqb}
 use lib.ListN.{length, length-append}
 use Rattle.basis.specs.Choice.{pick, not, both}
 use Rattle.plans.specs.declared.Plan.{Plan}
-use Rattle.delays.specs.Graph.{far, direct_of, minimum_of}
-use Rattle.delays.specs.Lists.{Source, passing, sourced, direct_sources, transitive_sources, reached, downstream}
+use Rattle.delays.specs.Graph.{far, minimum_of}
+use Rattle.delays.specs.Lists.{Source, passing, sourced, reached, downstream}
 
 -- x stands in the list
 pub data In {A : Type 0} (x : A) : List A → Type 0 where

@@ -1,8 +1,8 @@
 -- What the minimum delays are to each other: never above the direct, never above a way round, and of no delay only one way.
 -- Assumes nothing.
-use mathlib.Core.Path.{◌≡◌, refl, sym, subst, ◌∙◌}
+use mathlib.Core.Path.{◌≡◌, refl}
 use mathlib.Core.Bool.{Bool, true, false}
-use mathlib.Core.Logic.{◌⊎◌, inl, inr, ◌↔◌}
+use mathlib.Core.Logic.{◌⊎◌, inl, inr}
 use mathlib.Core.List.{List}
 use Prim.Native.Nat.{ℕ, zero, suc, ◌+◌, ◌<◌, ◌≤◌, min}
 use native.Mathlib.Omega.{arith}
@@ -12,7 +12,7 @@ use lib.ListN.{get_or}
 use Rattle.basis.specs.Choice.{pick}
 use Rattle.plans.specs.declared.Plan.{Plan}
 use Rattle.plans.specs.Values.{Fits}
-use Rattle.delays.specs.Graph.{far, none, plus, next, via, cost, direct, Edge, Walk, last, then, reach_of, EdgeOf, direct_of, minimum_of}
+use Rattle.delays.specs.Graph.{far, none, plus, next, via, cost, direct, Walk, last, then, reach_of, EdgeOf, direct_of, minimum_of}
 use Rattle.delays.proofs.Walks.{Least, least-direct, least-delay, Right, right}
 use Rattle.delays.proofs.Cycles.{Quick, Cycles, cycles}
 use Rattle.delays.proofs.Plans.{edges-of}

@@ -5,11 +5,11 @@ use mathlib.Core.Logic.{◌⊎◌}
 use mathlib.Core.List.{List}
 use Prim.Native.Nat.{ℕ, ◌<◌, ◌≤◌}
 use native.Mathlib.Omega.{arith}
-use lib.ListN.{get_or, length}
+use lib.ListN.{get_or}
 use Rattle.plans.specs.declared.Plan.{Plan}
 use Rattle.plans.specs.Values.{Fits}
 use Rattle.delays.specs.Graph.{far, none, direct_of, minimum_of}
-use Rattle.delays.specs.Cells.{Inside, Tidy, Holds, Held, Closed, Spread}
+use Rattle.delays.specs.Cells.{Inside, Held, Closed, Spread}
 use Rattle.delays.proofs.Walks.{Edges}
 use Rattle.delays.proofs.Cells.{held_of, holds_of, tidy_of}
 use Rattle.delays.proofs.Rounds.{direct-outside, closed}

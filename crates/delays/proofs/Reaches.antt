@@ -1,16 +1,15 @@
 -- The same recursion on `Reach` itself, as a reader may want it, and that it is the view of the numbers.
 -- Assumes nothing.
 use mathlib.Core.Path.{◌≡◌, refl, sym, ap, ap₂, ◌∙◌}
-use mathlib.Core.Logic.{◌⊎◌, ⊎_elim, inl, inr}
-use mathlib.Core.List.{List}
-use Prim.Native.Nat.{ℕ, zero, suc, ◌+◌, ◌<◌, ◌≤◌, min}
+use mathlib.Core.Logic.{⊎_elim}
+use Prim.Native.Nat.{ℕ, zero, suc, ◌+◌, ◌≤◌, min}
 use native.Mathlib.Omega.{arith}
 use borrow.Author.Tests.{lt-ltb, le-ltb, le-leb, lt-leb}
 use lib.Dec.{leb, ltb}
 use Rattle.basis.specs.Choice.{pick}
 use Rattle.delays.specs.declared.Reach.{Reach}
 use Rattle.delays.specs.declared.Reach.TheVariants.{At, TooFar, None}
-use Rattle.delays.specs.Graph.{far, none, plus, next, via, reach_of, direct, min_delay}
+use Rattle.delays.specs.Graph.{far, plus, next, via, reach_of}
 use Rattle.delays.proofs.Walks.{le-or-lt, of-near, of-far, of_none, Size, near, just, past, size}
 
 -- the nearer of two

@@ -1,9 +1,9 @@
 -- Laws of the refusals: what is found is below n, and matrices that agree have one judgement.
 -- Assumes nothing.
 use mathlib.Core.Bool.{Bool, true, false}
-use mathlib.Core.Path.{◌≡◌, refl, sym, ap, ap₂, ◌∙◌}
+use mathlib.Core.Path.{◌≡◌, refl, ap, ap₂}
 use mathlib.Core.List.{List}
-use Prim.Native.Nat.{ℕ, ◌+◌, ◌<◌, ◌≤◌}
+use Prim.Native.Nat.{ℕ, ◌<◌}
 use native.Mathlib.Omega.{arith}
 use borrow.Author.Tests.{ltb-true}
 use lib.Dec.{ltb, eqb}
@@ -13,9 +13,8 @@ use Rattle.plans.specs.declared.Plan.{Plan}
 use Rattle.plans.specs.Values.{Fits}
 use Rattle.delays.specs.Graph.{far, minimum_of}
 use Rattle.delays.specs.Cells.{grid, Held}
-use Rattle.delays.specs.Search.{first, mask_of}
 use Rattle.delays.specs.Refusals.{accepted, zero_cycle, too_far_from, first_loop, linked_by, component_of, cycle_of, far_target, far_source, far_of, or_else, judged, refusal_of}
-use Rattle.delays.proofs.Search.{first-within, first-hit, first-agree, mask-agree}
+use Rattle.delays.proofs.Search.{first-hit, first-agree, mask-agree}
 
 -- the first source has a target
 pub target_in : (g : ℕ → ℕ → ℕ) (n s t : ℕ) → s ≡ far_source g n → s < n → t ≡ far_target g n s → t < n

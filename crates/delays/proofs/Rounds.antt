@@ -1,6 +1,6 @@
 -- Rounds in place: what a turn keeps, what the rounds give, and what the edges give.
 -- Assumes nothing.
-use mathlib.Core.Path.{◌≡◌, refl, sym, ap, ap₂, ◌∙◌}
+use mathlib.Core.Path.{◌≡◌, refl, sym, ap₂, ◌∙◌}
 use mathlib.Core.Logic.{◌≢◌, ◌⊎◌, ⊎_elim, inl, inr}
 use mathlib.Core.List.{List}
 use Prim.Native.Nat.{ℕ, zero, suc, ◌+◌, ◌*◌, ◌<◌, ◌≤◌, min}
@@ -9,10 +9,9 @@ use native.Mathlib.Numerals.{add-one}
 use native.Mathlib.Nat.{eq-or-lt_of_le}
 use native.Mathlib.Decide.{ℕ_discrete}
 use borrow.Author.Tests.{eq-eqb, ne_eqb}
-use lib.ListN.{get_or, length}
-use Rattle.basis.specs.Choice.{pick}
-use Rattle.delays.specs.Graph.{far, none, plus, next, via, cost, direct}
-use Rattle.delays.specs.Cells.{cell, entry, grid, Tidy, Relaxed, Rowed, Rounded, Closed, Holds, Cleared, Offered, Spread}
+use lib.ListN.{get_or}
+use Rattle.delays.specs.Graph.{none, plus, next, via, cost, direct}
+use Rattle.delays.specs.Cells.{entry, grid, Relaxed, Rowed, Rounded, Closed, Holds, Cleared, Offered, Spread}
 use Rattle.delays.proofs.Walks.{le-or-lt}
 use Rattle.delays.proofs.Cells.{cell-top}
 

@@ -1,20 +1,17 @@
 -- `via` is the least over walks.
 -- Assumes nothing.
-use mathlib.Core.Bool.{Bool, true, false}
-use mathlib.Core.Path.{◌≡◌, refl, sym, subst, ap, ◌∙◌}
+use mathlib.Core.Path.{◌≡◌, subst, ap, ◌∙◌}
 use mathlib.Core.Logic.{◌⊎◌, ⊎_elim, inl, inr, ◌↔◌}
 use mathlib.Core.List.{List}
-use Prim.Native.Nat.{ℕ, zero, suc, ◌+◌, ◌<◌, ◌≤◌, ◌^◌, min}
+use Prim.Native.Nat.{ℕ, zero, suc, ◌+◌, ◌<◌, ◌≤◌, min}
 use native.Mathlib.Omega.{arith}
 use native.Mathlib.Nat.{add_assoc, eq-or-lt_of_le, le_of_suc-le-suc}
 use native.Mathlib.Decide.{dec_le, ℕ_discrete}
 use borrow.Author.Tests.{lt-ltb, le-ltb, le-leb, lt-leb, eq-eqb, ne_eqb}
-use lib.Dec.{leb, ltb, eqb}
 use lib.ListN.{get_or}
-use Rattle.basis.specs.Choice.{pick}
 use Rattle.delays.specs.declared.Reach.{Reach}
 use Rattle.delays.specs.declared.Reach.TheVariants.{At, TooFar, None}
-use Rattle.delays.specs.Graph.{far, none, plus, Edge, Walk, last, then, next, via, cost, direct, reach_of, min_delay}
+use Rattle.delays.specs.Graph.{far, plus, Edge, Walk, last, then, next, via, cost, direct, reach_of, min_delay}
 
 -- a walk whose inner members are below k
 pub data Inner (E : ℕ → ℕ → ℕ → Type 0) (k : ℕ) : ℕ → ℕ → ℕ → Type 0 where

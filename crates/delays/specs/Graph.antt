@@ -1,6 +1,6 @@
 -- Delays between members, as numbers: a delay below 2^64 is itself, `far` stands for every sum past it, and `none` for no path at all.
 -- Assumes nothing.
-use Rattle.std.specs.Prelude.{Bool, true, false, ◌≡◌, List, ℕ, zero, suc, ◌+◌, ◌<◌, ◌≤◌, ◌^◌, min, max, leb, ltb, eqb, get_or}
+use Rattle.std.specs.Prelude.{◌≡◌, List, ℕ, zero, suc, ◌+◌, ◌<◌, ◌^◌, min, max, leb, ltb, eqb, get_or}
 use Rattle.basis.specs.Choice.{pick}
 use Rattle.plans.specs.declared.Plan.{Plan}
 use Rattle.delays.specs.declared.Reach.{Reach}

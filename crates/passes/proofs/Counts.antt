@@ -1,8 +1,7 @@
 -- Each turn of a pass sends one delivery at most.
 -- Assumes nothing.
-use Prim.Native.Nat.{ℕ, zero, suc, ◌+◌, ◌*◌, ◌≤◌}
+use Prim.Native.Nat.{ℕ, zero, suc, ◌+◌, ◌≤◌}
 use native.Mathlib.Omega.{arith}
-use mathlib.Core.Path.{◌≡◌, refl, sym, ap, ◌∙◌}
 use mathlib.Core.Bool.{Bool, true, false}
 use mathlib.Core.List.{List}
 use Rattle.basis.specs.Choice.{pick}
@@ -18,8 +17,7 @@ use Rattle.rows.specs.Rows.{downstream_target, downstream_first, downstream_coun
 use Rattle.records.specs.Records.{plainly, granted_record, bounded_record, rested_record, idle_due, bound_due}
 use Rattle.members.specs.Rules.{horizon_in}
 use Rattle.rows.specs.Loops.{over_rows, over_all}
-use Rattle.passes.specs.declared.Progress.{Progress}
-use Rattle.passes.specs.Pages.{Page, on, record_at, posting, telling, grant_to, grant_at, grant_by, grants_in, idle_to, idle_at, bound_to, bound_at, start_at, fail_at}
+use Rattle.passes.specs.Pages.{Page, record_at, telling, grant_to, grant_at, grant_by, grants_in, idle_to, idle_at, bound_to, bound_at, start_at, fail_at}
 
 abbrev pub sent_of : Page → ℕ
 sent_of g = g.progress.sent

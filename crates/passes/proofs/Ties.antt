@@ -7,34 +7,33 @@ use mathlib.Core.Bool.{Bool, true, false}
 use mathlib.Core.List.{List, [], ◌∷◌, ◌++◌, append_assoc, append-nil}
 use lib.Dec.{ltb, eqb}
 use borrow.Author.Tests.{ne_eqb}
-use lib.ListN.{length, get_or, set, length-append, length-set}
-use Rattle.basis.specs.Choice.{pick, not, both, either}
+use lib.ListN.{length, get_or, length-append}
+use Rattle.basis.specs.Choice.{pick, both}
 use Rattle.basis.specs.Parts.{replaced}
-use Rattle.basis.proofs.Parts.{replaced-join, replaced-none}
+use Rattle.basis.proofs.Parts.{replaced-join}
 use Rattle.tags.specs.declared.Tag.{Tag}
-use Rattle.tags.specs.declared.Tag.TheVariants.{Never, Finite, Forever}
-use Rattle.plans.specs.Nets.{Net, none, downstream}
+use Rattle.tags.specs.declared.Tag.TheVariants.{Never}
+use Rattle.plans.specs.Nets.{none, downstream}
 use Rattle.states.specs.declared.Next.TheVariants.{Quiet, Event}
 use Rattle.states.specs.declared.Publication.{Publication}
 use Rattle.states.specs.declared.Publication.TheVariants.{Unpublished, Published}
 use Rattle.states.specs.declared.MemberState.{MemberState}
 use Rattle.states.specs.declared.State.{State}
 use Rattle.states.specs.declared.Delivery.{Delivery}
-use Rattle.states.specs.declared.Delivery.TheVariants.{Started, Grant, Carried, Idle, Stopped, Suppress, Failed}
-use Rattle.states.specs.Records.{blank_record}
+use Rattle.states.specs.declared.Delivery.TheVariants.{Grant, Idle, Suppress}
 use Rattle.states.specs.Sessions.{Member, Session, or_never, view, put, with_grant, with_bound, with_idle}
-use Rattle.states.specs.Rules.{active, awaited, earliest, horizon, due, revision_of, bound_of, useful, mark_is}
+use Rattle.states.specs.Rules.{awaited, earliest, horizon, due, revision_of, bound_of}
 use Rattle.states.specs.Steps.{Out, Pass, tell, each, every, to_all, visit, granting, grant_below, grants, is_empty, at_rest, confirmed, idling, idles, bounding, bounds, follow}
 use Rattle.states.proofs.Laws.{picked}
-use Rattle.states.proofs.Passes.{put_all, Long, visit-long, each_keeps, grants-long}
+use Rattle.states.proofs.Passes.{put_all, Long, visit-long}
 use Rattle.states.proofs.Counts.{idles-off, bounds-still}
 use Rattle.rows.specs.Rows.{Laid, members, downstream_target, downstream_first, downstream_count}
-use Rattle.rows.specs.Loops.{over_rows, over_all, delay_of, Ascends}
+use Rattle.rows.specs.Loops.{over_rows, over_all, delay_of}
 use Rattle.rows.specs.Nets.{net_in, Ordered}
 use Rattle.rows.proofs.Loops.{rows_all, where_named}
-use Rattle.requests.specs.Sending.{words_of, sheet_of, listed}
-use Rattle.records.specs.Records.{plainly, granted_record, bounded_record, rested_record, idle_due, bound_due}
-use Rattle.members.specs.Codes.{record_of, state_of}
+use Rattle.requests.specs.Sending.{words_of}
+use Rattle.records.specs.Records.{plainly, idle_due, bound_due}
+use Rattle.members.specs.Codes.{record_of}
 use Rattle.members.specs.Rules.{horizon_in, bounds_in, Mild}
 use Rattle.members.proofs.Codes.{state-at, state-put}
 use Rattle.members.proofs.Rules.{Earliests, Completeds, horizon-rows}
@@ -42,8 +41,7 @@ use Rattle.members.proofs.Bounds.{bounds-rows}
 use Rattle.members.proofs.Nets.{net_count}
 use Rattle.tags.specs.Tags.{least_of}
 use Rattle.transit.specs.Tags.{first_of}
-use Rattle.passes.specs.declared.Progress.{Progress}
-use Rattle.passes.specs.Pages.{Page, on, record_at, with_record, posting, telling, grant_to, grant_at, grant_by, grants_in, resting, rest_at, idle_to, idle_at, bound_to, bound_at, start_at, fail_at, settled_in}
+use Rattle.passes.specs.Pages.{Page, record_at, with_record, posting, telling, grant_to, grant_at, grant_by, grants_in, resting, rest_at, idle_to, idle_at, bound_to, bound_at, settled_in}
 use Rattle.passes.specs.Ties.{all_words, Shows}
 
 -- ---- words

@@ -1,9 +1,8 @@
 -- A member's turn: a record stored as it was changes nothing; a grant is that of the member's own horizon.
 -- Assumes nothing.
 use Prim.Native.Nat.{ℕ}
-use mathlib.Core.Path.{◌≡◌, refl, sym, ap, ◌∙◌}
+use mathlib.Core.Path.{◌≡◌, sym, ap, ◌∙◌}
 use mathlib.Core.List.{List}
-use lib.ListN.{set}
 use lib.Seq.{set-get_or}
 use Rattle.tags.specs.declared.Tag.{Tag}
 use Rattle.states.specs.declared.MemberState.{MemberState}

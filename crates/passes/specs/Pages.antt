@@ -1,14 +1,14 @@
 -- What a step has come to: the state, how many deliveries are sent, and the words of the buffer; and each pass over members.
 -- Assumes nothing.
-use Rattle.std.specs.Prelude.{ℕ, zero, suc, ◌+◌, ◌*◌, ◌≤◌, Bool, true, false, List, [], ◌∷◌, eqb, length, get_or, set}
-use Rattle.basis.specs.Choice.{pick, not, both}
+use Rattle.std.specs.Prelude.{ℕ, ◌+◌, ◌*◌, ◌≤◌, Bool, List, eqb, length, get_or, set}
+use Rattle.basis.specs.Choice.{pick, both}
 use Rattle.basis.specs.Parts.{replaced}
 use Rattle.tags.specs.declared.Tag.{Tag}
-use Rattle.tags.specs.declared.Tag.TheVariants.{Never, Finite, Forever}
+use Rattle.tags.specs.declared.Tag.TheVariants.{Never}
 use Rattle.states.specs.declared.MemberState.{MemberState}
 use Rattle.states.specs.declared.State.{State}
 use Rattle.states.specs.declared.Delivery.{Delivery}
-use Rattle.states.specs.declared.Delivery.TheVariants.{Started, Grant, Carried, Idle, Stopped, Suppress, Failed}
+use Rattle.states.specs.declared.Delivery.TheVariants.{Started, Grant, Idle, Suppress, Failed}
 use Rattle.states.specs.Records.{blank_record}
 use Rattle.states.specs.Sessions.{or_never}
 use Rattle.states.specs.Rules.{due, revision_of}

@@ -1,12 +1,12 @@
 -- What a plan that is not refused is known for.
 -- Assumes nothing.
-use Prim.Native.Nat.{ℕ, zero, suc, ◌+◌, ◌<◌, ◌≤◌}
+use Prim.Native.Nat.{ℕ, suc, ◌≤◌}
 use mathlib.Core.Bool.{Bool, true, false}
-use mathlib.Core.Path.{◌≡◌, refl, sym, ap, ◌∙◌}
+use mathlib.Core.Path.{◌≡◌, refl}
 use mathlib.Core.List.{List}
 use native.Mathlib.Omega.{arith}
 use native.Mathlib.Decide.{ℕ_discrete}
-use borrow.Author.Tests.{eq-eqb, ne_eqb, ltb-false, eqb-true, not-false}
+use borrow.Author.Tests.{eq-eqb, ne_eqb, ltb-false, not-false}
 use lib.Dec.{ltb, eqb}
 use lib.ListN.{length}
 use Rattle.basis.specs.Choice.{pick, not}
@@ -14,8 +14,8 @@ use Rattle.plans.specs.declared.Plan.{Plan}
 use Rattle.plans.specs.declared.Refusal.{Refusal}
 use Rattle.plans.specs.declared.Reading.{Reading}
 use Rattle.plans.specs.Rows.{header, member_limit, edge_limit, version, member_count, edge_count, edges_from, end_of}
-use Rattle.plans.specs.Refusals.{giving, none, or_else, first_of, framed, member_fault, member_repeat, edge_fault, rows_refused, refusal_of}
-use Rattle.plans.specs.Reading.{plan_in, plan_of, blank_plan, reading_of}
+use Rattle.plans.specs.Refusals.{giving, or_else, first_of, framed, member_fault, member_repeat, edge_fault, rows_refused, refusal_of}
+use Rattle.plans.specs.Reading.{plan_in, blank_plan, reading_of}
 use Rattle.plans.proofs.Faults.{framed-length}
 
 pub record Accepted (b : List ℕ) : Type 0 where

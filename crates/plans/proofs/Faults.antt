@@ -5,14 +5,14 @@ use mathlib.Core.Bool.{Bool, true, false, false≢true}
 use mathlib.Core.Path.{◌≡◌, refl, sym, ap, ◌∙◌}
 use mathlib.Core.List.{List}
 use borrow.Author.Tests.{eq-eqb, ne_eqb, lt-ltb, le-ltb, eqb-true}
-use lib.Dec.{ltb, eqb}
+use lib.Dec.{eqb}
 use lib.ListN.{length}
 use Rattle.basis.specs.Choice.{pick, not, both, chosen, passed}
 use Rattle.plans.specs.declared.Refusal.{Refusal}
 use Rattle.plans.specs.declared.Member.{Member}
 use Rattle.plans.specs.declared.Edge.{Edge}
 use Rattle.plans.specs.Rows.{header, member_at, edge_from, member_id, edge_id, version, member_count, edge_count, member_offset, edge_offset, total, edges_from, end_of}
-use Rattle.plans.specs.Refusals.{giving, bare, none, or_else, first_of, among, framed, member_fault, member_repeat, edge_fault, rows_refused, refusal_of}
+use Rattle.plans.specs.Refusals.{giving, bare, none, first_of, among, framed, member_fault, member_repeat, edge_fault, rows_refused, refusal_of}
 
 module _ (b : List ℕ) (k : ℕ) (m : Member) (t : Bool) (e : m ≡ member_at b k) (q : t ≡ among (member_id b) k m.id) where
   here : among (member_id b) k (member_id b k) ≡ t

@@ -1,8 +1,8 @@
 -- What no refusal says of every row.
 -- Assumes nothing.
-use Prim.Native.Nat.{ℕ, zero, suc, ◌+◌, ◌<◌, ◌≤◌}
+use Prim.Native.Nat.{ℕ, zero, suc, ◌<◌, ◌≤◌}
 use mathlib.Core.Bool.{Bool, true, false, false≢true}
-use mathlib.Core.Path.{◌≡◌, refl, sym, ap, ◌∙◌}
+use mathlib.Core.Path.{◌≡◌, refl, sym, ◌∙◌}
 use mathlib.Core.Logic.{⊎_elim}
 use mathlib.Core.List.{List}
 use native.Mathlib.Nat.{eq-or-lt_of_le, le_of_suc-le-suc}
@@ -10,7 +10,7 @@ use native.Mathlib.Decide.{ℕ_discrete}
 use native.Mathlib.Omega.{arith}
 use borrow.Author.Tests.{ltb-false, ne_eqb, not-false}
 use lib.Dec.{ltb, eqb}
-use Rattle.basis.specs.Choice.{pick, not, either}
+use Rattle.basis.specs.Choice.{not, either}
 use Rattle.plans.specs.declared.Refusal.{Refusal}
 use Rattle.plans.specs.Rows.{capacity_limit, member_count, edge_count, edges_from, member_at, edge_from, member_id, edge_id, edge_at}
 use Rattle.plans.specs.Refusals.{first_of, among, member_fault, member_repeat, edge_fault}

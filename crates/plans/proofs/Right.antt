@@ -1,10 +1,9 @@
 -- What is read fits, and means what 01 says.
 -- Assumes nothing.
-use Prim.Native.Nat.{ℕ, zero, suc, ◌+◌, ◌-◌, ◌<◌, ◌≤◌}
-use mathlib.Core.Bool.{Bool, true, false}
-use mathlib.Core.Path.{◌≡◌, refl, sym, ap, ◌∙◌}
-use mathlib.Core.Logic.{◌⊎◌, ⊎_elim, inl, inr}
-use mathlib.Core.List.{List, [], ◌∷◌, ◌++◌, map}
+use Prim.Native.Nat.{ℕ, zero, suc, ◌-◌, ◌<◌, ◌≤◌}
+use mathlib.Core.Bool.{true}
+use mathlib.Core.Path.{◌≡◌, refl, ◌∙◌}
+use mathlib.Core.List.{List, [], ◌∷◌, map}
 use native.Mathlib.Nat.{le_of_suc-le-suc}
 use native.Mathlib.Decide.{ℕ_discrete}
 use native.Mathlib.Omega.{arith}
@@ -12,16 +11,13 @@ use borrow.Author.Tests.{eq-eqb, ne_eqb, ltb-true}
 use lib.Dec.{eqb}
 use lib.ListN.{length, get_or, replicate, length-append, length-replicate, length-map, get_or-append, get_or-map}
 use Rattle.basis.specs.Choice.{pick}
-use Rattle.plans.specs.declared.Member.{Member}
 use Rattle.plans.specs.declared.Edge.{Edge}
-use Rattle.plans.specs.declared.Plan.{Plan}
-use Rattle.plans.specs.declared.Reading.{Reading}
-use Rattle.plans.specs.Rows.{member_count, edge_count, edges_from, member_at, edge_from, member_id, edge_at}
+use Rattle.plans.specs.Rows.{member_count, edge_count, member_at, member_id, edge_at}
 use Rattle.plans.specs.Refusals.{none as no-refusal, refusal_of, among}
-use Rattle.plans.specs.Order.{member_before, edge_before, ordered, place}
+use Rattle.plans.specs.Order.{member_before, edge_before, place}
 use Rattle.plans.specs.Reading.{padded, ids_of, members_of, edges_of, plan_from, plan_of, blank_plan, reading_of}
 use Rattle.plans.specs.Values.{Fits}
-use Rattle.plans.specs.Meaning.{Ordered, Meant}
+use Rattle.plans.specs.Meaning.{Meant}
 use Rattle.plans.proofs.Inserted.{All, none, one, all-at, all-ordered, length-ordered}
 use Rattle.plans.proofs.Ascending.{Has, here, there, has-map, has-ordered, ordered-right}
 use Rattle.plans.proofs.Comparisons.{members-compare, edges-compare}

@@ -9,23 +9,20 @@ use mir.Val.{Val}
 use denote.Laws.{Is}
 use denote.Enum.Declared.{row}
 use lib.Dec.{ltb, leb, eqb}
-use borrow.Author.Tests.{ltb-true, ltb-false, leb-true, leb-false, lt-ltb, le-ltb}
+use borrow.Author.Tests.{leb-false, lt-ltb}
 use Rattle.basis.specs.Choice.{pick, not, both, either}
 use Rattle.tags.specs.declared.Tag.{Tag}
 use Rattle.tags.specs.declared.Tag.TheVariants.{Never, Finite, Forever}
-use Rattle.tags.specs.declared.Delayed.{Delayed}
 use Rattle.tags.specs.declared.Delayed.TheVariants.{To, TooFar}
 use Rattle.tags.specs.Tags.{top, tag_le, tag_before, same_tag, delayed, delay_of}
 use Rattle.tags.proofs.Order.{clash}
 use Rattle.tags.specs.contracts.Tag.{the_type}
 use Rattle.states.specs.declared.Next.{Next}
 use Rattle.states.specs.declared.Next.TheVariants.{Quiet, Event}
-use Rattle.states.specs.declared.Publication.{Publication}
-use Rattle.states.specs.declared.Publication.TheVariants.{Unpublished, Published}
+use Rattle.states.specs.declared.Publication.TheVariants.{Published}
 use Rattle.states.specs.declared.Mark.{Mark}
-use Rattle.states.specs.declared.Limit.{Limit}
 use Rattle.states.specs.Sessions.{Member, or_never}
-use Rattle.states.specs.Rules.{is_set, mark_is, active, due, useful}
+use Rattle.states.specs.Rules.{is_set, mark_is, due, useful}
 use Rattle.states.specs.Steps.{any, finite, is_event, older, otherwise, confirmed, bad_publication, bad_payload, is_absent, or_zero, of_limit, on_instant}
 use Rattle.records.specs.Records.{bad_event, event_due, lets_pass, off_route, off_grant}
 use Rattle.records.proofs.Tests.{no_more, either_true}

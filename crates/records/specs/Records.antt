@@ -1,14 +1,13 @@
 -- One member's record: the member that it says when no tag is held, and each change of it.
 -- Assumes nothing.
-use Rattle.std.specs.Prelude.{ℕ, Bool, true, false, List, [], eqb}
+use Rattle.std.specs.Prelude.{ℕ, Bool, true, false, [], eqb}
 use Rattle.basis.specs.Choice.{pick, not, both, either}
 use Rattle.tags.specs.declared.Tag.{Tag}
 use Rattle.states.specs.declared.Next.{Next}
-use Rattle.states.specs.declared.Publication.{Publication}
-use Rattle.states.specs.declared.Publication.TheVariants.{Unpublished, Published}
+use Rattle.states.specs.declared.Publication.TheVariants.{Published}
 use Rattle.states.specs.declared.Mark.{Mark}
 use Rattle.states.specs.declared.Mark.TheVariants.{Unset, At}
-use Rattle.states.specs.declared.Limit.TheVariants.{Absent, Upto}
+use Rattle.states.specs.declared.Limit.TheVariants.{Upto}
 use Rattle.states.specs.declared.MemberState.{MemberState}
 use Rattle.states.specs.declared.Next.TheVariants.{Quiet, Event}
 use Rattle.states.specs.declared.Limit.{Limit}

@@ -1,8 +1,8 @@
 -- The plan that a compiled plan holds, place by place.
 -- Assumes nothing.
 use Prim.Native.Nat.{ℕ, zero, suc, ◌+◌, ◌<◌, ◌≤◌}
-use mathlib.Core.Path.{◌≡◌, refl, sym, ap, ◌∙◌}
-use mathlib.Core.List.{List, [], ◌∷◌}
+use mathlib.Core.Path.{◌≡◌, refl, ap, ◌∙◌}
+use mathlib.Core.List.{List}
 use native.Mathlib.Omega.{arith}
 use native.Mathlib.Decide.{dec_le}
 use native.Mathlib.Nat.{add-zero, add-suc, zero-add, suc-add}
@@ -11,8 +11,7 @@ use lib.Dec.{ltb}
 use lib.ListN.{length, get_or}
 use Rattle.basis.specs.Choice.{pick}
 use Rattle.plans.specs.Values.{Fits}
-use Rattle.plans.specs.declared.Plan.{Plan}
-use Rattle.rows.specs.Rows.{members, edges, member_id, capacity, edge_id, edge_source, edge_target, edge_delay}
+use Rattle.rows.specs.Rows.{members, edges, capacity, edge_source, edge_target}
 use Rattle.rows.specs.Plans.{listed, padded, plan_in}
 
 listed-length : (f : ℕ → ℕ) (i k : ℕ) → length (listed f i k) ≡ k

@@ -1,6 +1,6 @@
 -- Loops over rows, and what rows say of a position.
 -- Assumes nothing.
-use Rattle.std.specs.Prelude.{ℕ, zero, suc, ◌+◌, ◌<◌, ◌≤◌, ltb, eqb}
+use Rattle.std.specs.Prelude.{ℕ, zero, suc, ◌+◌, ◌<◌, eqb}
 use Rattle.basis.specs.Choice.{pick}
 use Rattle.plans.specs.Nets.{none}
 

@@ -2,7 +2,7 @@
 -- Assumes nothing.
 use Rattle.std.specs.Prelude.{ℕ, zero, suc, ◌<◌, ◌≡◌, List, [], ◌∷◌, ltb}
 use Rattle.plans.specs.Nets.{Net, Route, none, downstream}
-use Rattle.rows.specs.Rows.{members, edges, capacity, direct_first, direct_count, transitive_first, transitive_count, downstream_first, downstream_count, edge_source, edge_target, edge_delay, directs, transitives, direct_source, direct_delay, transitive_source, transitive_delay, downstream_target}
+use Rattle.rows.specs.Rows.{members, edges, capacity, direct_first, direct_count, transitive_first, transitive_count, downstream_first, downstream_count, edge_source, edge_target, edge_delay, direct_source, direct_delay, transitive_source, transitive_delay, downstream_target}
 use Rattle.rows.specs.Loops.{delay_of, Ascends}
 
 -- the routes of k edges from i on

@@ -2,6 +2,7 @@
 ghost use Rattle.std.specs.Prelude.{◌≤◌, length};
 
 use crate::session::{ROOM, SLAB, Session, least, say_error, say_number, say_refusal};
+use std::io;
 
 // The most bytes that a compiled plan has.
 const MOST: u64 = 31920;
@@ -36,90 +37,116 @@ pub fn read_given(line: &[u8], from: usize, bytes: &mut [u8]) -> Given
 }
 
 // The first bytes of the image, in hex.
-fn put_image(out: &mut [u8], at: usize, image: &[u8], total: usize) -> usize {
+fn put_image(
+    rt: &impl Print,
+    out: &mut [u8],
+    at: usize,
+    image: &[u8],
+    total: usize,
+) -> io::Result<usize> {
     if image.len() < total {
-        return at;
+        return Ok(at);
     }
-    text::put_hex(out, at, &image[0..total])
+    text::put_hex(rt, out, at, &image[0..total])
 }
 
 // The compiled plan in use, in hex.
-fn say_compiled(out: &mut [u8], mut s: Session, image: &[u8]) -> Session {
+fn say_compiled(
+    rt: &impl Print,
+    out: &mut [u8],
+    mut s: Session,
+    image: &[u8],
+) -> io::Result<Session> {
     let total = s.size;
-    let one = text::put(out, s.at, b"compiled");
-    let two = text::put_item(out, one, total as u64);
-    let three = text::put(out, two, b" ");
-    let four = put_image(out, three, image, total);
-    s.at = text::put(out, four, b"\n");
-    s
+    let one = text::put(rt, out, s.at, b"compiled")?;
+    let two = text::put_item(rt, out, one, total as u64)?;
+    let three = text::put(rt, out, two, b" ")?;
+    let four = put_image(rt, out, three, image, total)?;
+    s.at = text::put(rt, out, four, b"\n")?;
+    Ok(s)
 }
 
 // Compiles plan bytes into so many bytes of the image.
-fn compiled(plan: &[u8], room: u64, out: &mut [u8], image: &mut [u8], mut s: Session) -> Session {
+fn compiled(
+    rt: &impl Print,
+    plan: &[u8],
+    room: u64,
+    out: &mut [u8],
+    image: &mut [u8],
+    mut s: Session,
+) -> io::Result<Session> {
     let limit = least(room, image.len());
     let c = image::compile(plan, &mut image[0..limit]);
     let refusal = c.refusal;
     if refusal.number != 0 {
-        return say_refusal(out, s, refusal);
+        return say_refusal(rt, out, s, refusal);
     }
     s.size = c.total;
-    say_compiled(out, s, image)
+    say_compiled(rt, out, s, image)
 }
 
 // plan HEX [ROOM]
 pub fn plan(
+    rt: &impl Print,
     line: &[u8],
     from: usize,
     scratch: &mut [u8],
     out: &mut [u8],
     image: &mut [u8],
     s: Session,
-) -> Session {
+) -> io::Result<Session> {
     let g = read_given(line, from, scratch);
     let mut words = [MOST; 1];
     let n = text::read_numbers(line, g.end, &mut words);
     if !g.good {
-        return say_error(out, s);
+        return say_error(rt, out, s);
     }
     if !n.good {
-        return say_error(out, s);
+        return say_error(rt, out, s);
     }
     if 1 < n.count {
-        return say_error(out, s);
+        return say_error(rt, out, s);
     }
     let count = g.count;
-    compiled(&scratch[0..count], words[0], out, image, s)
+    compiled(rt, &scratch[0..count], words[0], out, image, s)
 }
 
 // Uses these bytes as the compiled plan.
-fn used(bytes: &[u8], out: &mut [u8], image: &mut [u8], mut s: Session) -> Session {
+fn used(
+    rt: &impl Print,
+    bytes: &[u8],
+    out: &mut [u8],
+    image: &mut [u8],
+    mut s: Session,
+) -> io::Result<Session> {
     let n = bytes.len();
     if image.len() < n {
-        return say_error(out, s);
+        return say_error(rt, out, s);
     }
-    bytes::copy(bytes, image);
+    image[0..n].copy_from_slice(bytes);
     s.size = n;
-    say_number(out, s, b"image", n as u64)
+    say_number(rt, out, s, b"image", n as u64)
 }
 
 // image HEX
 pub fn image(
+    rt: &impl Print,
     line: &[u8],
     from: usize,
     scratch: &mut [u8],
     out: &mut [u8],
     image: &mut [u8],
     s: Session,
-) -> Session {
+) -> io::Result<Session> {
     let g = read_given(line, from, scratch);
     if !g.good {
-        return say_error(out, s);
+        return say_error(rt, out, s);
     }
     if g.end < line.len() {
-        return say_error(out, s);
+        return say_error(rt, out, s);
     }
     let count = g.count;
-    used(&scratch[0..count], out, image, s)
+    used(rt, &scratch[0..count], out, image, s)
 }
 
 // The one number that the rest of a line says, at most so large.
@@ -134,21 +161,33 @@ pub fn one_number(line: &[u8], from: usize, most: u64) -> text::Number {
 }
 
 // slab WORDS
-pub fn slab(line: &[u8], from: usize, out: &mut [u8], mut s: Session) -> Session {
+pub fn slab(
+    rt: &impl Print,
+    line: &[u8],
+    from: usize,
+    out: &mut [u8],
+    mut s: Session,
+) -> io::Result<Session> {
     let n = one_number(line, from, SLAB as u64);
     if !n.good {
-        return say_error(out, s);
+        return say_error(rt, out, s);
     }
     s.lent = n.value as usize;
-    say_number(out, s, b"slab", n.value)
+    say_number(rt, out, s, b"slab", n.value)
 }
 
 // room WORDS
-pub fn room(line: &[u8], from: usize, out: &mut [u8], mut s: Session) -> Session {
+pub fn room(
+    rt: &impl Print,
+    line: &[u8],
+    from: usize,
+    out: &mut [u8],
+    mut s: Session,
+) -> io::Result<Session> {
     let n = one_number(line, from, ROOM as u64);
     if !n.good {
-        return say_error(out, s);
+        return say_error(rt, out, s);
     }
     s.room = n.value as usize;
-    say_number(out, s, b"room", n.value)
+    say_number(rt, out, s, b"room", n.value)
 }

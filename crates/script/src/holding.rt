@@ -1,6 +1,7 @@
 // The commands that show the session's state and put one in its place.
 use crate::session::{Session, put_words, say, say_error};
 use states::{Limit, Mark, MemberState, Next, Publication};
+use std::io;
 use tags::{Tag, Told};
 
 // The most members, and the slab words of each.
@@ -23,164 +24,209 @@ fn flag(b: bool) -> u64 {
 }
 
 // Two words.
-fn put_two(out: &mut [u8], at: usize, a: u64, b: u64) -> usize {
-    let next = text::put_item(out, at, a);
-    text::put_item(out, next, b)
+fn put_two(rt: &impl Print, out: &mut [u8], at: usize, a: u64, b: u64) -> io::Result<usize> {
+    let next = text::put_item(rt, out, at, a)?;
+    text::put_item(rt, out, next, b)
 }
 
 // Three words.
-fn put_three(out: &mut [u8], at: usize, a: u64, b: u64, c: u64) -> usize {
-    let next = put_two(out, at, a, b);
-    text::put_item(out, next, c)
+fn put_three(
+    rt: &impl Print,
+    out: &mut [u8],
+    at: usize,
+    a: u64,
+    b: u64,
+    c: u64,
+) -> io::Result<usize> {
+    let next = put_two(rt, out, at, a, b)?;
+    text::put_item(rt, out, next, c)
 }
 
 // A tag: class, offset, microstep.
-fn put_tag(out: &mut [u8], at: usize, t: Tag) -> usize {
+fn put_tag(rt: &impl Print, out: &mut [u8], at: usize, t: Tag) -> io::Result<usize> {
     let w = t.words();
-    put_three(out, at, w.class, w.offset, w.microstep)
+    put_three(rt, out, at, w.class, w.offset, w.microstep)
 }
 
-fn put_limit(out: &mut [u8], at: usize, limit: Limit) -> usize {
+fn put_limit(rt: &impl Print, out: &mut [u8], at: usize, limit: Limit) -> io::Result<usize> {
     match limit {
-        Limit::Absent => put_three(out, at, ABSENT, 0, 0),
-        Limit::Upto(t) => put_tag(out, at, t),
+        Limit::Absent => put_three(rt, out, at, ABSENT, 0, 0),
+        Limit::Upto(t) => put_tag(rt, out, at, t),
     }
 }
 
 // Whether a revision is set, and the revision.
-fn put_mark(out: &mut [u8], at: usize, mark: Mark) -> usize {
+fn put_mark(rt: &impl Print, out: &mut [u8], at: usize, mark: Mark) -> io::Result<usize> {
     match mark {
-        Mark::Unset => put_two(out, at, 0, 0),
-        Mark::At(r) => put_two(out, at, 1, r),
+        Mark::Unset => put_two(rt, out, at, 0, 0),
+        Mark::At(r) => put_two(rt, out, at, 1, r),
     }
 }
 
-fn put_next(out: &mut [u8], at: usize, revision: u64, event: Next) -> usize {
+fn put_next(
+    rt: &impl Print,
+    out: &mut [u8],
+    at: usize,
+    revision: u64,
+    event: Next,
+) -> io::Result<usize> {
     match event {
         Next::Quiet => {
-            let quiet = put_two(out, at, 1, revision);
-            put_three(out, quiet, ABSENT, 0, 0)
+            let quiet = put_two(rt, out, at, 1, revision)?;
+            put_three(rt, out, quiet, ABSENT, 0, 0)
         }
         Next::Event(t) => {
-            let event = put_two(out, at, 2, revision);
-            put_tag(out, event, t)
+            let event = put_two(rt, out, at, 2, revision)?;
+            put_tag(rt, out, event, t)
         }
     }
 }
 
 // Unpublished, no event or an event; the revision; the event's tag.
-fn put_publication(out: &mut [u8], at: usize, p: Publication) -> usize {
+fn put_publication(
+    rt: &impl Print,
+    out: &mut [u8],
+    at: usize,
+    p: Publication,
+) -> io::Result<usize> {
     match p {
         Publication::Unpublished => {
-            let none = put_two(out, at, 0, 0);
-            put_three(out, none, ABSENT, 0, 0)
+            let none = put_two(rt, out, at, 0, 0)?;
+            put_three(rt, out, none, ABSENT, 0, 0)
         }
-        Publication::Published(revision, event) => put_next(out, at, revision, event),
+        Publication::Published(revision, event) => put_next(rt, out, at, revision, event),
     }
 }
 
 // The words of a member's limits: granted, bound, completed.
-fn put_limits(out: &mut [u8], at: usize, m: MemberState) -> usize {
+fn put_limits(rt: &impl Print, out: &mut [u8], at: usize, m: MemberState) -> io::Result<usize> {
     let granted = m.granted;
     let bound = m.bound;
     let completed = m.completed;
-    let one = put_limit(out, at, granted);
-    let two = put_limit(out, one, bound);
-    put_limit(out, two, completed)
+    let one = put_limit(rt, out, at, granted)?;
+    let two = put_limit(rt, out, one, bound)?;
+    put_limit(rt, out, two, completed)
 }
 
 // The words of a member's revisions for idle.
-fn put_revisions(out: &mut [u8], at: usize, m: MemberState) -> usize {
+fn put_revisions(rt: &impl Print, out: &mut [u8], at: usize, m: MemberState) -> io::Result<usize> {
     let asked = m.asked;
     let idle = m.idle;
-    let one = put_mark(out, at, asked);
-    put_mark(out, one, idle)
+    let one = put_mark(rt, out, at, asked)?;
+    put_mark(rt, out, one, idle)
 }
 
 // The words of a member's record.
-fn put_record(out: &mut [u8], at: usize, m: MemberState) -> usize {
+fn put_record(rt: &impl Print, out: &mut [u8], at: usize, m: MemberState) -> io::Result<usize> {
     let publication = m.publication;
     let revision = m.revision;
-    let joined = text::put_item(out, at, flag(m.joined));
-    let published = put_publication(out, joined, publication);
-    let grant = put_mark(out, published, revision);
-    let limits = put_limits(out, grant, m);
-    let revisions = put_revisions(out, limits, m);
-    let stopped = text::put_item(out, revisions, flag(m.stopped));
-    text::put_item(out, stopped, m.held as u64)
+    let joined = text::put_item(rt, out, at, flag(m.joined))?;
+    let published = put_publication(rt, out, joined, publication)?;
+    let grant = put_mark(rt, out, published, revision)?;
+    let limits = put_limits(rt, out, grant, m)?;
+    let revisions = put_revisions(rt, out, limits, m)?;
+    let stopped = text::put_item(rt, out, revisions, flag(m.stopped))?;
+    text::put_item(rt, out, stopped, m.held as u64)
 }
 
 // The tags that member i holds.
-fn put_tags(out: &mut [u8], at: usize, slab: &[u64], i: usize, held: usize) -> usize {
+fn put_tags(
+    rt: &impl Print,
+    out: &mut [u8],
+    at: usize,
+    slab: &[u64],
+    i: usize,
+    held: usize,
+) -> io::Result<usize> {
     if MEMBERS as usize <= i {
-        return at;
+        return Ok(at);
     }
     if WIDTH < held {
-        return at;
+        return Ok(at);
     }
     let start = WIDTH * i;
     if slab.len() < start {
-        return at;
+        return Ok(at);
     }
-    put_words(out, at, &slab[start..], 2 * held)
+    put_words(rt, out, at, &slab[start..], 2 * held)
 }
 
 // A line for member i.
-fn say_member(out: &mut [u8], mut s: Session, slab: &[u64], i: usize, m: MemberState) -> Session {
-    let word = text::put(out, s.at, b"member");
-    let index = text::put_item(out, word, i as u64);
-    let record = put_record(out, index, m);
-    let tags = put_tags(out, record, slab, i, m.held);
-    s.at = text::put(out, tags, b"\n");
-    s
+fn say_member(
+    rt: &impl Print,
+    out: &mut [u8],
+    mut s: Session,
+    slab: &[u64],
+    i: usize,
+    m: MemberState,
+) -> io::Result<Session> {
+    let word = text::put(rt, out, s.at, b"member")?;
+    let index = text::put_item(rt, out, word, i as u64)?;
+    let record = put_record(rt, out, index, m)?;
+    let tags = put_tags(rt, out, record, slab, i, m.held)?;
+    s.at = text::put(rt, out, tags, b"\n")?;
+    Ok(s)
 }
 
 // A line for each member below the count.
-fn say_members(out: &mut [u8], s: Session, slab: &[u64]) -> Session {
+fn say_members(rt: &impl Print, out: &mut [u8], s: Session, slab: &[u64]) -> io::Result<Session> {
     let state = s.state;
     let count = state.count;
     let mut t = s;
     let mut i: usize = 0;
     while i < 32 && i < count {
         let m = state.members[i];
-        t = say_member(out, t, slab, i, m);
+        t = say_member(rt, out, t, slab, i, m)?;
         i += 1;
     }
-    t
+    Ok(t)
 }
 
 // The session's four words.
-fn say_state(out: &mut [u8], mut s: Session) -> Session {
+fn say_state(rt: &impl Print, out: &mut [u8], mut s: Session) -> io::Result<Session> {
     let state = s.state;
-    let word = text::put(out, s.at, b"state");
-    let count = text::put_item(out, word, state.count as u64);
-    let identity = text::put_item(out, count, state.identity);
-    let cause = put_two(out, identity, state.cause, state.code);
-    s.at = text::put(out, cause, b"\n");
-    s
+    let word = text::put(rt, out, s.at, b"state")?;
+    let count = text::put_item(rt, out, word, state.count as u64)?;
+    let identity = text::put_item(rt, out, count, state.identity)?;
+    let cause = put_two(rt, out, identity, state.cause, state.code)?;
+    s.at = text::put(rt, out, cause, b"\n")?;
+    Ok(s)
 }
 
 // dump
-pub fn dump(line: &[u8], from: usize, slab: &[u64], out: &mut [u8], s: Session) -> Session {
+pub fn dump(
+    rt: &impl Print,
+    line: &[u8],
+    from: usize,
+    slab: &[u64],
+    out: &mut [u8],
+    s: Session,
+) -> io::Result<Session> {
     if from < line.len() {
-        return say_error(out, s);
+        return say_error(rt, out, s);
     }
-    let t = say_state(out, s);
-    say_members(out, t, slab)
+    let t = say_state(rt, out, s)?;
+    say_members(rt, out, t, slab)
 }
 
 // state COUNT IDENTITY CAUSE CODE
-pub fn state(line: &[u8], from: usize, out: &mut [u8], mut s: Session) -> Session {
+pub fn state(
+    rt: &impl Print,
+    line: &[u8],
+    from: usize,
+    out: &mut [u8],
+    mut s: Session,
+) -> io::Result<Session> {
     let mut words = [0u64; 4];
     let n = text::read_numbers(line, from, &mut words);
     if !n.good {
-        return say_error(out, s);
+        return say_error(rt, out, s);
     }
     if n.count != 4 {
-        return say_error(out, s);
+        return say_error(rt, out, s);
     }
     if MEMBERS < words[0] {
-        return say_error(out, s);
+        return say_error(rt, out, s);
     }
     let mut state = s.state;
     state.count = words[0] as usize;
@@ -188,25 +234,32 @@ pub fn state(line: &[u8], from: usize, out: &mut [u8], mut s: Session) -> Sessio
     state.cause = words[2];
     state.code = words[3];
     s.state = state;
-    say(out, s, b"state")
+    say(rt, out, s, b"state")
 }
 
 // word INDEX VALUE
-pub fn word(line: &[u8], from: usize, slab: &mut [u64], out: &mut [u8], s: Session) -> Session {
+pub fn word(
+    rt: &impl Print,
+    line: &[u8],
+    from: usize,
+    slab: &mut [u64],
+    out: &mut [u8],
+    s: Session,
+) -> io::Result<Session> {
     let mut words = [0u64; 2];
     let n = text::read_numbers(line, from, &mut words);
     if !n.good {
-        return say_error(out, s);
+        return say_error(rt, out, s);
     }
     if n.count != 2 {
-        return say_error(out, s);
+        return say_error(rt, out, s);
     }
     if slab.len() as u64 <= words[0] {
-        return say_error(out, s);
+        return say_error(rt, out, s);
     }
     let index = words[0] as usize;
     slab[index] = words[1];
-    say(out, s, b"word")
+    say(rt, out, s, b"word")
 }
 
 // A limit that words say, if they do.
@@ -368,40 +421,48 @@ fn store(slab: &mut [u64], i: usize, k: usize, value: u64) {
 
 // Replaces a member's record and its stretch.
 fn replaced(
+    rt: &impl Print,
     slab: &mut [u64],
     out: &mut [u8],
     mut s: Session,
     w: &[u64; MEMBER],
     m: MemberState,
-) -> Session {
+) -> io::Result<Session> {
     let i = w[0] as usize;
     if 32 <= i {
-        return say_error(out, s);
+        return say_error(rt, out, s);
     }
     put_stretch(slab, i, w);
     let mut state = s.state;
     state.members[i] = m;
     s.state = state;
-    say(out, s, b"member")
+    say(rt, out, s, b"member")
 }
 
 // member I and the words of its record
-pub fn member(line: &[u8], from: usize, slab: &mut [u64], out: &mut [u8], s: Session) -> Session {
+pub fn member(
+    rt: &impl Print,
+    line: &[u8],
+    from: usize,
+    slab: &mut [u64],
+    out: &mut [u8],
+    s: Session,
+) -> io::Result<Session> {
     let mut words = [0u64; MEMBER];
     let n = text::read_numbers(line, from, &mut words);
     let said = member_of(&words);
     if !n.good {
-        return say_error(out, s);
+        return say_error(rt, out, s);
     }
     if !said.good {
-        return say_error(out, s);
+        return say_error(rt, out, s);
     }
     let member = said.member;
     if member.held > TAGS as usize {
-        return say_error(out, s);
+        return say_error(rt, out, s);
     }
     if n.count != RECORD + 2 * member.held {
-        return say_error(out, s);
+        return say_error(rt, out, s);
     }
-    replaced(slab, out, s, &words, member)
+    replaced(rt, slab, out, s, &words, member)
 }

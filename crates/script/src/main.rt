@@ -8,6 +8,8 @@ mod routing;
 mod session;
 
 use crate::session::{BYTES, OUT, SLAB, Session, say_error};
+use std::io;
+use std::io::Read;
 use text::{Found, WINDOW, Window};
 
 // A script under way: the window on its lines, what it holds, and whether there may be more.
@@ -39,46 +41,46 @@ enum Command {
 }
 
 fn command_of(name: &[u8]) -> Command {
-    if check::same(name, b"plan") {
+    if name == b"plan".as_slice() {
         return Command::Plan;
     }
-    if check::same(name, b"image") {
+    if name == b"image".as_slice() {
         return Command::Image;
     }
-    if check::same(name, b"slab") {
+    if name == b"slab".as_slice() {
         return Command::Slab;
     }
-    if check::same(name, b"room") {
+    if name == b"room".as_slice() {
         return Command::Room;
     }
-    if check::same(name, b"open") {
+    if name == b"open".as_slice() {
         return Command::Open;
     }
-    if check::same(name, b"request") {
+    if name == b"request".as_slice() {
         return Command::Request;
     }
-    if check::same(name, b"abort") {
+    if name == b"abort".as_slice() {
         return Command::Abort;
     }
-    if check::same(name, b"dump") {
+    if name == b"dump".as_slice() {
         return Command::Dump;
     }
-    if check::same(name, b"state") {
+    if name == b"state".as_slice() {
         return Command::State;
     }
-    if check::same(name, b"member") {
+    if name == b"member".as_slice() {
         return Command::Member;
     }
-    if check::same(name, b"word") {
+    if name == b"word".as_slice() {
         return Command::Word;
     }
-    if check::same(name, b"witness") {
+    if name == b"witness".as_slice() {
         return Command::Witness;
     }
-    if check::same(name, b"check") {
+    if name == b"check".as_slice() {
         return Command::Check;
     }
-    if check::same(name, b"path") {
+    if name == b"path".as_slice() {
         return Command::Path;
     }
     Command::Unknown
@@ -86,50 +88,52 @@ fn command_of(name: &[u8]) -> Command {
 
 // Does what a line says.
 fn run(
+    rt: &impl Print,
     line: &[u8],
     scratch: &mut [u8],
     image: &mut [u8],
     slab: &mut [u64],
     out: &mut [u8],
     s: Session,
-) -> Session {
+) -> io::Result<Session> {
     let end = text::word_end(line, 0);
     let command = command_of(&line[0..end]);
     match command {
-        Command::Plan => compiling::plan(line, end, scratch, out, image, s),
-        Command::Image => compiling::image(line, end, scratch, out, image, s),
-        Command::Slab => compiling::slab(line, end, out, s),
-        Command::Room => compiling::room(line, end, out, s),
-        Command::Open => calling::open(line, end, image, slab, out, s),
-        Command::Request => calling::request(line, end, image, slab, out, s),
-        Command::Abort => calling::abort(line, end, image, slab, out, s),
-        Command::Dump => holding::dump(line, end, slab, out, s),
-        Command::State => holding::state(line, end, out, s),
-        Command::Member => holding::member(line, end, slab, out, s),
-        Command::Word => holding::word(line, end, slab, out, s),
-        Command::Witness => routing::witness(line, end, scratch, out, s),
-        Command::Check => routing::check_walk(line, end, scratch, out, s),
-        Command::Path => routing::path(line, end, scratch, out, s),
-        Command::Unknown => say_error(out, s),
+        Command::Plan => compiling::plan(rt, line, end, scratch, out, image, s),
+        Command::Image => compiling::image(rt, line, end, scratch, out, image, s),
+        Command::Slab => compiling::slab(rt, line, end, out, s),
+        Command::Room => compiling::room(rt, line, end, out, s),
+        Command::Open => calling::open(rt, line, end, image, slab, out, s),
+        Command::Request => calling::request(rt, line, end, image, slab, out, s),
+        Command::Abort => calling::abort(rt, line, end, image, slab, out, s),
+        Command::Dump => holding::dump(rt, line, end, slab, out, s),
+        Command::State => holding::state(rt, line, end, out, s),
+        Command::Member => holding::member(rt, line, end, slab, out, s),
+        Command::Word => holding::word(rt, line, end, slab, out, s),
+        Command::Witness => routing::witness(rt, line, end, scratch, out, s),
+        Command::Check => routing::check_walk(rt, line, end, scratch, out, s),
+        Command::Path => routing::path(rt, line, end, scratch, out, s),
+        Command::Unknown => say_error(rt, out, s),
     }
 }
 
 // Answers a line; empty lines and comments are passed over.
 fn answer(
+    rt: &impl Print,
     line: &[u8],
     scratch: &mut [u8],
     image: &mut [u8],
     slab: &mut [u64],
     out: &mut [u8],
     s: Session,
-) -> Session {
+) -> io::Result<Session> {
     if line.len() == 0 {
-        return s;
+        return Ok(s);
     }
     if line[0] == b'#' {
-        return s;
+        return Ok(s);
     }
-    run(line, scratch, image, slab, out, s)
+    run(rt, line, scratch, image, slab, out, s)
 }
 
 // The session at the next line.
@@ -141,15 +145,16 @@ fn counted(mut s: Session) -> Session {
 }
 
 // Writes the answers so far when the next line has yet to come.
-fn shown(out: &[u8], window: Window, mut s: Session) -> Session {
+fn shown(rt: &impl Print, out: &[u8], window: Window, mut s: Session) -> io::Result<Session> {
     if window.start == window.end {
-        s.at = text::flush(out, s.at);
+        s.at = text::flush(rt, out, s.at)?;
     }
-    s
+    Ok(s)
 }
 
 // Answers the line from start to end of the buffer.
 fn answer_at(
+    rt: &impl Print,
     buf: &[u8],
     start: usize,
     end: usize,
@@ -158,62 +163,76 @@ fn answer_at(
     slab: &mut [u64],
     out: &mut [u8],
     s: Session,
-) -> Session {
+) -> io::Result<Session> {
     if end < start {
-        return s;
+        return Ok(s);
     }
     if buf.len() < end {
-        return s;
+        return Ok(s);
     }
-    answer(&buf[start..end], scratch, image, slab, out, s)
+    answer(rt, &buf[start..end], scratch, image, slab, out, s)
 }
 
 // One line more.
 fn turned(
+    rt: &impl Print,
+    input: &mut impl Read,
     buf: &mut [u8; WINDOW],
     scratch: &mut [u8; BYTES],
     image: &mut [u8; BYTES],
     slab: &mut [u64; SLAB],
     out: &mut [u8; OUT],
     t: Turn,
-) -> Turn {
-    let before = shown(out, t.window, t.session);
-    let l = text::next_line(buf, t.window);
+) -> io::Result<Turn> {
+    let before = shown(rt, out, t.window, t.session)?;
+    let l = text::next_line(input, buf, t.window);
     let window = l.window;
     let found = l.found;
     let start = l.start;
     let end = l.end;
     match found {
-        Found::Nothing => Turn {
+        Found::Nothing => Ok(Turn {
             window,
             session: before,
             more: false,
-        },
+        }),
         Found::TooLong => {
-            let session = say_error(out, counted(before));
-            Turn {
+            let session = say_error(rt, out, counted(before))?;
+            Ok(Turn {
                 window,
                 session,
                 more: true,
-            }
+            })
         }
         Found::Text => {
-            let session = answer_at(buf, start, end, scratch, image, slab, out, counted(before));
-            Turn {
+            let session = answer_at(
+                rt,
+                buf,
+                start,
+                end,
+                scratch,
+                image,
+                slab,
+                out,
+                counted(before),
+            )?;
+            Ok(Turn {
                 window,
                 session,
                 more: true,
-            }
+            })
         }
     }
 }
 
 // Writes the last answers.
-fn finish(out: &[u8; OUT], s: Session) {
-    text::flush(out, s.at);
+fn finish(rt: &impl Print, out: &[u8; OUT], s: Session) -> io::Result<()> {
+    text::flush(rt, out, s.at)?;
+    Ok(())
 }
 
-fn main() {
+fn main(rt: HostRuntime) -> io::Result<()> {
+    let mut input = rt.reader();
     let mut buf = [0u8; WINDOW];
     let mut scratch = [0u8; BYTES];
     let mut image = [0u8; BYTES];
@@ -231,8 +250,17 @@ fn main() {
     };
     let mut turns = u64::MAX;
     while 0 < turns && t.more {
-        t = turned(&mut buf, &mut scratch, &mut image, &mut slab, &mut out, t);
+        t = turned(
+            &rt,
+            &mut input,
+            &mut buf,
+            &mut scratch,
+            &mut image,
+            &mut slab,
+            &mut out,
+            t,
+        )?;
         turns -= 1;
     }
-    finish(&out, t.session);
+    finish(&rt, &out, t.session)
 }

@@ -3,6 +3,7 @@ ghost use Rattle.std.specs.Prelude.{◌≤◌};
 
 use plans::Refusal;
 use states::State;
+use std::io;
 
 // The most bytes of a compiled plan that a line can say.
 pub const BYTES: usize = 32800;
@@ -53,44 +54,61 @@ pub fn least(a: u64, b: usize) -> usize
 }
 
 // A word that ends its line.
-pub fn say(out: &mut [u8], mut s: Session, word: &[u8]) -> Session {
-    let next = text::put(out, s.at, word);
-    s.at = text::put(out, next, b"\n");
-    s
+pub fn say(rt: &impl Print, out: &mut [u8], mut s: Session, word: &[u8]) -> io::Result<Session> {
+    let next = text::put(rt, out, s.at, word)?;
+    s.at = text::put(rt, out, next, b"\n")?;
+    Ok(s)
 }
 
 // A word and a number.
-pub fn say_number(out: &mut [u8], mut s: Session, word: &[u8], n: u64) -> Session {
-    let one = text::put(out, s.at, word);
-    let two = text::put_item(out, one, n);
-    s.at = text::put(out, two, b"\n");
-    s
+pub fn say_number(
+    rt: &impl Print,
+    out: &mut [u8],
+    mut s: Session,
+    word: &[u8],
+    n: u64,
+) -> io::Result<Session> {
+    let one = text::put(rt, out, s.at, word)?;
+    let two = text::put_item(rt, out, one, n)?;
+    s.at = text::put(rt, out, two, b"\n")?;
+    Ok(s)
 }
 
 // The line cannot be read.
-pub fn say_error(out: &mut [u8], s: Session) -> Session {
+pub fn say_error(rt: &impl Print, out: &mut [u8], s: Session) -> io::Result<Session> {
     let line = s.line;
-    say_number(out, s, b"error", line)
+    say_number(rt, out, s, b"error", line)
 }
 
 // A refusal, with what it gives.
-pub fn say_refusal(out: &mut [u8], mut s: Session, r: Refusal) -> Session {
-    let word = text::put(out, s.at, b"refused");
-    let number = text::put_item(out, word, r.number);
-    let mask = text::put_item(out, number, r.mask);
-    let first = text::put_item(out, mask, r.first);
-    let second = text::put_item(out, first, r.second);
-    s.at = text::put(out, second, b"\n");
-    s
+pub fn say_refusal(
+    rt: &impl Print,
+    out: &mut [u8],
+    mut s: Session,
+    r: Refusal,
+) -> io::Result<Session> {
+    let word = text::put(rt, out, s.at, b"refused")?;
+    let number = text::put_item(rt, out, word, r.number)?;
+    let mask = text::put_item(rt, out, number, r.mask)?;
+    let first = text::put_item(rt, out, mask, r.first)?;
+    let second = text::put_item(rt, out, first, r.second)?;
+    s.at = text::put(rt, out, second, b"\n")?;
+    Ok(s)
 }
 
 // The first n of some words, each after a space.
-pub fn put_words(out: &mut [u8], at: usize, words: &[u64], n: usize) -> usize {
+pub fn put_words(
+    rt: &impl Print,
+    out: &mut [u8],
+    at: usize,
+    words: &[u64],
+    n: usize,
+) -> io::Result<usize> {
     let mut next = at;
     let mut k: usize = 0;
     while k < words.len() && k < n {
-        next = text::put_item(out, next, words[k]);
+        next = text::put_item(rt, out, next, words[k])?;
         k += 1;
     }
-    next
+    Ok(next)
 }

@@ -1,7 +1,7 @@
 -- Delay, predecessor and subtract against the order.
 -- Assumes nothing.
-use Prim.Native.Nat.{ℕ, ◌+◌, ◌*◌, ◌-◌, ◌<◌, ◌≤◌}
-use mathlib.Core.Path.{◌≡◌, refl, sym, ap, ◌∙◌}
+use Prim.Native.Nat.{ℕ, ◌+◌, ◌-◌, ◌<◌, ◌≤◌}
+use mathlib.Core.Path.{◌≡◌, refl, sym}
 use mathlib.Core.Bool.{Bool, true, false}
 use mathlib.Core.Logic.{◌⊎◌, inl, inr}
 use mathlib.Core.List.{List}
@@ -10,15 +10,13 @@ use denote.Laws.{Is}
 use denote.Enum.Declared.{row}
 use native.Mathlib.Omega.{arith}
 use lib.Dec.{ltb, leb, eqb}
-use borrow.Author.Tests.{ltb-true, ltb-false, leb-true, leb-false, eqb-true, eqb-false, le-leb, lt-leb, lt-ltb, le-ltb, eq-eqb, ne_eqb}
-use Rattle.basis.specs.Choice.{pick}
+use borrow.Author.Tests.{ltb-true, ltb-false, leb-true, leb-false, eqb-false, lt-leb, lt-ltb, le-ltb}
 use Rattle.tags.specs.declared.Tag.{Tag}
 use Rattle.tags.specs.declared.Tag.TheVariants.{Never, Finite, Forever}
-use Rattle.tags.specs.Tags.{top, lex_le, tag_le, tag_before, delayed, pred_of, less_of, least_of, told_by, words_of}
-use Rattle.tags.specs.declared.Told.{Told}
-use Rattle.tags.specs.declared.Told.TheVariants.{Is as Told-as-Is, Unknown}
+use Rattle.tags.specs.Tags.{top, lex_le, tag_le, tag_before, delayed, pred_of, less_of, told_by, words_of}
+use Rattle.tags.specs.declared.Told.TheVariants.{Is as Told-as-Is}
 use Rattle.tags.specs.contracts.Tag.{the_type}
-use Rattle.tags.proofs.Order.{clash, Lex, lex, lex-of, reflexive}
+use Rattle.tags.proofs.Order.{clash, Lex, lex, lex-of}
 
 -- a microstep is at most M
 abbrev pub Small : Tag → Type 0

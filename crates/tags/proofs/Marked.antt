@@ -1,7 +1,7 @@
 -- The marked subtractions: (10,3) less 0, 10, 11.
 -- Assumes nothing.
 use mathlib.Core.Path.{◌≡◌, refl}
-use Rattle.tags.specs.declared.Tag.TheVariants.{Never, Finite, Forever}
+use Rattle.tags.specs.declared.Tag.TheVariants.{Never, Finite}
 use Rattle.tags.specs.Tags.{top, less_of}
 
 pub less_0 : less_of (Finite 10 3) 0 ≡ Finite 10 3

@@ -1,15 +1,15 @@
 -- The order of tags: total, transitive, antisymmetric, with NEVER least and FOREVER greatest.
 -- Assumes nothing.
-use Prim.Native.Nat.{ℕ, ◌+◌, ◌*◌, ◌-◌, ◌<◌, ◌≤◌}
-use mathlib.Core.Path.{◌≡◌, refl, sym, ap, ◌∙◌}
+use Prim.Native.Nat.{ℕ, ◌<◌, ◌≤◌}
+use mathlib.Core.Path.{◌≡◌, refl, sym, ◌∙◌}
 use mathlib.Core.Bool.{Bool, true, false}
 use mathlib.Core.Logic.{◌⊎◌, inl, inr}
 use native.Mathlib.Omega.{arith}
-use lib.Dec.{ltb, leb, eqb}
-use borrow.Author.Tests.{ltb-true, ltb-false, leb-true, leb-false, le-leb, lt-leb, lt-ltb, le-ltb}
+use lib.Dec.{ltb}
+use borrow.Author.Tests.{ltb-true, ltb-false, leb-true, leb-false, le-leb, lt-ltb, le-ltb}
 use Rattle.tags.specs.declared.Tag.{Tag}
 use Rattle.tags.specs.declared.Tag.TheVariants.{Never, Finite, Forever}
-use Rattle.tags.specs.Tags.{lex_le, tag_le, tag_before, same_tag, least_of, greatest_of}
+use Rattle.tags.specs.Tags.{lex_le, tag_le, same_tag, least_of}
 
 pub clash : {A : Type 0} → false ≡ true → A
 clash {A} e = let z : ◌≡◌ {A = ℕ} 0 1 = cc in absurd (omega arith)

@@ -1,3 +1,4 @@
-pub mod Numbers
+pub mod Decimals
 pub mod Hex
 pub mod Splits
+pub mod Places

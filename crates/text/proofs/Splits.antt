@@ -1,6 +1,6 @@
 -- Laws of words.
 -- Assumes nothing.
-use Prim.Native.Nat.{ℕ, zero, suc, ◌+◌, ◌-◌, ◌≤◌, ◌<◌}
+use Prim.Native.Nat.{ℕ, suc, ◌+◌, ◌-◌, ◌≤◌, ◌<◌}
 use mathlib.Core.Path.{◌≡◌, refl, ap, sym, ◌∙◌}
 use mathlib.Core.Bool.{Bool, true, false}
 use mathlib.Core.List.{List, [], ◌∷◌}
@@ -11,7 +11,7 @@ use lib.Dec.{eqb, ltb}
 use lib.ListN.{length, take, drop, set, length-drop}
 use lib.Seq.{drop-drop, take-length, sets}
 use Rattle.basis.specs.Choice.{pick, chosen, passed}
-use Rattle.bytes.specs.Bytes.{index_of, index_after, slice}
+use Rattle.text.specs.Bytes.{index_of, index_after, slice}
 use Rattle.text.specs.declared.words.Number.{Number}
 use Rattle.text.specs.declared.words.Numbers.{Numbers}
 use Rattle.text.specs.Numbers.{number_of, leading, count_from}

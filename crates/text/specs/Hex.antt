@@ -1,7 +1,7 @@
 -- Bytes in lowercase hex: two digits a byte; "odd or bad hex" says none.
 -- Assumes nothing.
 use Rattle.std.specs.Prelude.{ℕ, ◌+◌, ◌-◌, ◌*◌, ◌/◌, ◌%◌, Bool, true, false, List, [], ◌∷◌, ltb, eqb, length}
-use Rattle.basis.specs.Choice.{pick, not, both}
+use Rattle.basis.specs.Choice.{pick}
 use Rattle.text.specs.declared.words.Bytes.{Bytes}
 
 -- the value of a hex digit; 16 for any other byte

@@ -1,6 +1,6 @@
 -- Decimal numbers: "numbers in decimal"; "a number of 2^64 or more" is none.
 -- Assumes nothing.
-use Rattle.std.specs.Prelude.{ℕ, ◌+◌, ◌-◌, ◌*◌, Bool, true, false, List, [], ◌∷◌, ltb}
+use Rattle.std.specs.Prelude.{ℕ, ◌+◌, ◌-◌, ◌*◌, true, false, List, [], ◌∷◌, ltb}
 use Rattle.basis.specs.Choice.{pick}
 use Rattle.text.specs.declared.words.Number.{Number}
 use Rattle.text.specs.declared.words.Numbers.{Numbers}

@@ -2,7 +2,7 @@
 -- Assumes nothing.
 use Rattle.std.specs.Prelude.{ℕ, ◌+◌, List, [], ◌∷◌, eqb, ltb, length, drop}
 use Rattle.basis.specs.Choice.{pick}
-use Rattle.bytes.specs.Bytes.{index_of, slice}
+use Rattle.text.specs.Bytes.{index_of, slice}
 
 -- where the word that starts at a place ends: at the next space, or at the line's end
 unfoldable pub word_end : List ℕ → ℕ → ℕ

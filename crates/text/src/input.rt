@@ -1,7 +1,8 @@
-// Standard input, line by line, in a fixed amount of memory.
+// Standard input, or another reader, line by line, in a fixed amount of memory. A read that fails ends the input.
 ghost use Rattle.std.specs.Prelude.{◌≡◌, ◌+◌, ◌-◌, ◌<◌, ◌≤◌, length};
 
-use libc::STDIN_FILENO;
+use crate::scan;
+use std::io::Read;
 
 // The bytes that a line may have.
 pub const LINE: usize = 65600;
@@ -45,12 +46,11 @@ struct Seen {
     newline: usize,
 }
 
-// Reads once; how many bytes came, 0 at the input's end.
-fn read_some(part: &mut [u8]) -> usize
+// Reads once; how many bytes came, 0 at the input's end and where the read fails.
+fn read_some(input: &mut impl Read, part: &mut [u8]) -> usize
     ensures { result ≤ length part.new }
 {
-    let got = libc::read(STDIN_FILENO, part);
-    io::count(got, part)
+    input.read(part).unwrap_or(0)
 }
 
 // Moves the bytes from start to end to the front, and answers how many they are.
@@ -68,25 +68,25 @@ fn move_front(buf: &mut [u8], start: usize, end: usize) -> usize
 }
 
 // Reads once, after the bytes from start to end, which move to the front. Answers where what is unread ends.
-fn fill(buf: &mut [u8], start: usize, end: usize) -> usize
+fn fill(input: &mut impl Read, buf: &mut [u8], start: usize, end: usize) -> usize
     requires { (start ≤ end) × (end ≤ length buf.old) }
     ensures { (end - start ≤ result) × (result ≤ length buf.new) }
 {
     let kept = move_front(buf, start, end);
-    kept + read_some(&mut buf[kept..])
+    kept + read_some(input, &mut buf[kept..])
 }
 
 // Reads on until there is a newline, or more than a line may have, or the input is over.
-fn gather(buf: &mut [u8], first: usize, last: usize) -> Seen
+fn gather(input: &mut impl Read, buf: &mut [u8], first: usize, last: usize) -> Seen
     requires { (first ≤ last) × (last ≤ length buf.old) × (65600 < length buf.old) }
     ensures { (result.start ≤ result.newline) × (result.newline ≤ result.end) × (result.end ≤ length buf.new) }
 {
     let mut start = first;
     let mut end = last;
-    let mut newline = bytes::scan::find(buf, start, end, NEWLINE);
+    let mut newline = scan::find(buf, start, end, NEWLINE);
     while newline == end && end - start <= LINE {
         let seen = end - start;
-        let more = fill(buf, start, end);
+        let more = fill(input, buf, start, end);
         if more == seen {
             return Seen {
                 start: 0,
@@ -95,7 +95,7 @@ fn gather(buf: &mut [u8], first: usize, last: usize) -> Seen
                 newline: more,
             };
         }
-        newline = bytes::scan::find(buf, seen, more, NEWLINE);
+        newline = scan::find(buf, seen, more, NEWLINE);
         start = 0;
         end = more;
     }
@@ -108,12 +108,12 @@ fn gather(buf: &mut [u8], first: usize, last: usize) -> Seen
 }
 
 // The first newline of what is there, read on where needed.
-fn look(buf: &mut [u8], start: usize, end: usize, over: bool) -> Seen
+fn look(input: &mut impl Read, buf: &mut [u8], start: usize, end: usize, over: bool) -> Seen
     requires { (start ≤ end) × (end ≤ length buf.old) × (65600 < length buf.old) }
     ensures { (result.start ≤ result.newline) × (result.newline ≤ result.end) × (result.end ≤ length buf.new) }
 {
     if over {
-        let newline = bytes::scan::find(buf, start, end, NEWLINE);
+        let newline = scan::find(buf, start, end, NEWLINE);
         return Seen {
             start,
             end,
@@ -121,7 +121,7 @@ fn look(buf: &mut [u8], start: usize, end: usize, over: bool) -> Seen
             newline,
         };
     }
-    gather(buf, start, end)
+    gather(input, buf, start, end)
 }
 
 // A window on input that is over.
@@ -134,14 +134,14 @@ fn closed() -> Window {
 }
 
 // Reads on past the next newline, and forgets what stands before it.
-fn skip(buf: &mut [u8]) -> Window {
+fn skip(input: &mut impl Read, buf: &mut [u8]) -> Window {
     let mut turns = u64::MAX;
     while 0 < turns {
-        let end = read_some(buf);
+        let end = read_some(input, buf);
         if end == 0 {
             return closed();
         }
-        let newline = bytes::scan::find(buf, 0, end, NEWLINE);
+        let newline = scan::find(buf, 0, end, NEWLINE);
         if newline < end {
             return Window {
                 start: newline + 1,
@@ -193,7 +193,7 @@ fn last_line(start: usize, end: usize) -> Line
 }
 
 // The line that a scan found.
-fn line_at(buf: &mut [u8], s: Seen) -> Line
+fn line_at(input: &mut impl Read, buf: &mut [u8], s: Seen) -> Line
     requires { (s.start ≤ s.newline) × (s.newline ≤ s.end) × (s.end ≤ length buf.old) }
     ensures { (result.start ≤ result.end) × (result.end ≤ length buf.new) }
 {
@@ -208,7 +208,7 @@ fn line_at(buf: &mut [u8], s: Seen) -> Line
     if s.over {
         return last_line(s.start, s.end);
     }
-    let window = skip(buf);
+    let window = skip(input, buf);
     Line {
         found: Found::TooLong,
         start: 0,
@@ -225,11 +225,11 @@ fn least(a: usize, b: usize) -> usize
 
 // The next line of standard input. A line may have LINE bytes; a longer one is too long, and read to its end. The last one may
 // lack its newline.
-pub fn next_line(buf: &mut [u8; WINDOW], w: Window) -> Line
+pub fn next_line(input: &mut impl Read, buf: &mut [u8; WINDOW], w: Window) -> Line
     ensures { (result.start ≤ result.end) × (result.end ≤ 131200) }
 {
     let end = least(w.end, WINDOW);
     let start = least(w.start, end);
-    let s = look(buf, start, end, w.over);
-    line_at(buf, s)
+    let s = look(input, buf, start, end, w.over);
+    line_at(input, buf, s)
 }

@@ -1,8 +1,9 @@
-// A script as text: lines of standard input, their words, numbers and bytes; answers to standard output.
+// A script as text: lines of a reader, their words, numbers and bytes; answers to standard output.
 #![tactic(auto)]
 
 mod input;
 mod output;
+mod scan;
 mod words;
 
 pub use input::{Found, LINE, Line, WINDOW, Window, next_line};

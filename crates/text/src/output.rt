@@ -1,52 +1,51 @@
 // Answers, gathered in a lent buffer that is written to standard output when it is full. Each function takes the place after
-// what is gathered, and answers the next such place.
+// what is gathered, and answers the next such place, or the error of a write that failed.
 ghost use Rattle.std.specs.Prelude.{◌≤◌};
 
-use libc::STDOUT_FILENO;
+use std::io;
 
 // Writes what is gathered before `at`; nothing is gathered then.
-pub fn flush(out: &[u8], at: usize) -> usize {
+pub fn flush(rt: &impl Print, out: &[u8], at: usize) -> io::Result<usize> {
     if at <= out.len() {
-        io::write_all(STDOUT_FILENO, &out[0..at]);
+        rt.write_all(&out[0..at])?;
     }
-    0
+    Ok(0)
 }
 
 // One more byte.
-fn put_byte(out: &mut [u8], at: usize, b: u8) -> usize {
+fn put_byte(rt: &impl Print, out: &mut [u8], at: usize, b: u8) -> io::Result<usize> {
     let mut next = at;
     if out.len() <= at {
-        next = flush(out, at);
+        next = flush(rt, out, at)?;
     }
     if next < out.len() {
         out[next] = b;
         next += 1;
     }
-    next
+    Ok(next)
 }
 
 // A text.
-pub fn put(out: &mut [u8], at: usize, text: &[u8]) -> usize {
+pub fn put(rt: &impl Print, out: &mut [u8], at: usize, text: &[u8]) -> io::Result<usize> {
     let mut next = at;
     let mut i: usize = 0;
     while i < text.len() {
-        next = put_byte(out, next, text[i]);
+        next = put_byte(rt, out, next, text[i])?;
         i += 1;
     }
-    next
+    Ok(next)
 }
 
 // A number in decimal.
-pub fn put_decimal(out: &mut [u8], at: usize, n: u64) -> usize {
-    let mut text = [0u8; 20];
-    let k = io::decimal(n, &mut text);
-    put(out, at, &text[..k])
+pub fn put_decimal(rt: &impl Print, out: &mut [u8], at: usize, n: u64) -> io::Result<usize> {
+    let mut digits = itoa::Buffer::new();
+    put(rt, out, at, digits.format(n).as_bytes())
 }
 
 // A space and a number.
-pub fn put_item(out: &mut [u8], at: usize, n: u64) -> usize {
-    let next = put(out, at, b" ");
-    put_decimal(out, next, n)
+pub fn put_item(rt: &impl Print, out: &mut [u8], at: usize, n: u64) -> io::Result<usize> {
+    let next = put(rt, out, at, b" ")?;
+    put_decimal(rt, out, next, n)
 }
 
 // The glyph of a hex digit.
@@ -57,18 +56,18 @@ fn glyph(d: u8) -> u8
 }
 
 // The two hex digits of a byte.
-fn put_pair(out: &mut [u8], at: usize, b: u8) -> usize {
-    let next = put_byte(out, at, glyph(b / 16));
-    put_byte(out, next, glyph(b % 16))
+fn put_pair(rt: &impl Print, out: &mut [u8], at: usize, b: u8) -> io::Result<usize> {
+    let next = put_byte(rt, out, at, glyph(b / 16))?;
+    put_byte(rt, out, next, glyph(b % 16))
 }
 
 // Bytes in lowercase hex.
-pub fn put_hex(out: &mut [u8], at: usize, bytes: &[u8]) -> usize {
+pub fn put_hex(rt: &impl Print, out: &mut [u8], at: usize, bytes: &[u8]) -> io::Result<usize> {
     let mut next = at;
     let mut i: usize = 0;
     while i < bytes.len() {
-        next = put_pair(out, next, bytes[i]);
+        next = put_pair(rt, out, next, bytes[i])?;
         i += 1;
     }
-    next
+    Ok(next)
 }

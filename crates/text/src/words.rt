@@ -6,6 +6,8 @@ ghost use Rattle.text.specs.Numbers.{said, unsaid, longer_of, read_from, number_
 ghost use Rattle.text.specs.Hex.{nibble_of, all_hex, is_hex, bytes_in, bytes_of};
 ghost use Rattle.text.specs.Words.{word_end, words_after};
 
+use crate::scan;
+
 const SPACE: u8 = 32;
 
 // The bytes of the digits 0 and 9.
@@ -53,7 +55,7 @@ pub fn word_end(line: &[u8], from: usize) -> usize
     ensures value { result ≡ word_end line.now from }
     ensures lower_bound { (from ≤ result) × (result ≤ length line.now) }
 {
-    bytes::scan::find(line, from, line.len(), SPACE)
+    scan::find(line, from, line.len(), SPACE)
 }
 
 fn wide(x: u8) -> u64

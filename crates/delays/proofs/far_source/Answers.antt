@@ -1,8 +1,7 @@
-use Prim.Native.Nat.{◌-◌}
 use mathlib.Core.Path.{◌≡◌, sym, ◌∙◌}
 use native.Mathlib.Omega.{arith}
 use borrow.Author.Tests.{lt-ltb, le-ltb}
-use Rattle.delays.specs.Refusals.{far_target, far_source}
+use Rattle.delays.specs.Refusals.{far_source}
 use Rattle.delays.proofs.Search.{first-start, first-here, first_on, first-end}
 use Rattle.delays.proofs.far_source.Goals as goal
 

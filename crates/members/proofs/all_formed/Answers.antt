@@ -1,5 +1,4 @@
 use Rattle.members.proofs.Steps.{every_more, formed-next}
-use Prim.Native.Nat.{◌-◌}
 use mathlib.Core.Path.{◌≡◌, refl}
 use native.Mathlib.Omega.{arith}
 use Rattle.members.specs.Formed.{every}

@@ -3,7 +3,6 @@ use Rattle.states.specs.Steps.{every}
 use mathlib.Core.Path.{◌≡◌, refl, ◌∙◌}
 use native.Mathlib.Numerals.{add-one}
 use native.Mathlib.Omega.{arith}
-use Prim.Native.Nat.{◌-◌}
 use Rattle.passes.proofs.all_rest.Goals as goal
 
 pub loop-k-init : goal.loop-k-init

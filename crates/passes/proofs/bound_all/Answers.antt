@@ -4,7 +4,6 @@ use Rattle.rows.specs.Loops.{over_all}
 use mathlib.Core.Path.{◌≡◌, refl, ap, ◌∙◌}
 use native.Mathlib.Numerals.{add-one}
 use native.Mathlib.Omega.{arith}
-use Prim.Native.Nat.{◌-◌}
 use Rattle.passes.proofs.bound_all.Goals as goal
 
 pub loop-j-init : goal.loop-j-init

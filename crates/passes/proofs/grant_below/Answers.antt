@@ -5,7 +5,7 @@ use Rattle.rows.specs.Loops.{over_rows}
 use mathlib.Core.Path.{◌≡◌, refl, ap, ◌∙◌}
 use native.Mathlib.Numerals.{add-one}
 use native.Mathlib.Omega.{arith}
-use Prim.Native.Nat.{◌+◌, ◌-◌, ◌<◌}
+use Prim.Native.Nat.{◌+◌, ◌<◌}
 use borrow.Author.Rules.{rules}
 use Rattle.passes.proofs.grant_below.Goals as goal
 

@@ -2,7 +2,6 @@ use Rattle.records.proofs.Tests.{no_more}
 use Rattle.states.specs.Steps.{any}
 use Rattle.states.specs.Steps.{bad_completion}
 use mathlib.Core.Path.{sym, ◌∙◌}
-use borrow.Author.Tests.{not-false}
 use borrow.Author.Rules.{rules}
 use Rattle.records.proofs.bad_completion.Goals as goal
 

@@ -1,6 +1,5 @@
 use Rattle.records.proofs.Tests.{no_more}
 use mathlib.Core.Path.{sym, ◌∙◌}
-use borrow.Author.Tests.{not-false}
 use Rattle.records.proofs.bad_event.Goals as goal
 
 pub returns-then-at_or_before : goal.returns-then-at_or_before

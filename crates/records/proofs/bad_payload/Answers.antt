@@ -1,7 +1,6 @@
 use Rattle.records.proofs.Cases.{payload-tests}
 use Rattle.records.proofs.Tests.{no_more}
 use mathlib.Core.Path.{sym, ◌∙◌}
-use borrow.Author.Tests.{not-true, not-false}
 use Rattle.records.proofs.bad_payload.Goals as goal
 
 pub returns-then-not-is_finite : goal.returns-then-not-is_finite

@@ -1,6 +1,5 @@
 use Rattle.records.proofs.Tests.{no_more}
 use mathlib.Core.Path.{sym, ◌∙◌}
-use borrow.Author.Tests.{not-true, not-false}
 use Rattle.records.proofs.event_due.Goals as goal
 
 pub returns-then-not-is_active : goal.returns-then-not-is_active

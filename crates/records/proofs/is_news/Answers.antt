@@ -1,6 +1,5 @@
 use Rattle.records.proofs.Tests.{no_more}
 use mathlib.Core.Path.{sym, ◌∙◌}
-use borrow.Author.Tests.{not-true, not-false}
 use Rattle.records.proofs.is_news.Goals as goal
 
 pub returns-then-not-at_or_before : goal.returns-then-not-at_or_before

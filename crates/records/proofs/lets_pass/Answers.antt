@@ -1,6 +1,5 @@
 use Rattle.records.proofs.Tests.{no_more}
 use mathlib.Core.Path.{sym, ◌∙◌}
-use borrow.Author.Tests.{not-true, not-false}
 use Rattle.records.proofs.lets_pass.Goals as goal
 
 pub returns-then-not-before : goal.returns-then-not-before

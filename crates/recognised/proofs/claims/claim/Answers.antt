@@ -1,6 +1,5 @@
 use Rattle.recognised.proofs.Walks.{claimed_none, claimed_more, claimed_all}
 use mathlib.Core.Path.{◌≡◌, sym}
-use Prim.Native.Nat.{◌-◌}
 use borrow.Author.Count.{below_more}
 use Rattle.recognised.proofs.Cells.{tells_true, tells_false, never}
 use native.Mathlib.Omega.{arith}

@@ -3,7 +3,6 @@ use Rattle.recognised.proofs.Cells.{tells_true, tells_false, never}
 use Rattle.recognised.proofs.Words.{plains-set}
 use lib.ListN.{length-set}
 use mathlib.Core.Path.{◌≡◌, sym}
-use Prim.Native.Nat.{◌-◌}
 use borrow.Author.Count.{below_more}
 use native.Mathlib.Omega.{arith}
 use Rattle.recognised.proofs.claims.claim_rows.Goals as goal

@@ -1,5 +1,4 @@
 use Rattle.delays.specs.Cells.{grid}
-use Prim.Native.Nat.{◌-◌}
 use borrow.Author.Count.{below_more}
 use Rattle.recognised.proofs.Cells.{tells_true, tells_false}
 use native.Mathlib.Omega.{arith}

@@ -1,5 +1,4 @@
 use borrow.Author.Count.{below_more}
-use Prim.Native.Nat.{◌-◌}
 use native.Mathlib.Omega.{arith}
 use Rattle.recognised.proofs.Cells.{tells_true, tells_false}
 use Rattle.recognised.proofs.claims.short_rows.Goals as goal

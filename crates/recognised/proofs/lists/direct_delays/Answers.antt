@@ -1,6 +1,5 @@
 use Rattle.recognised.proofs.Matrix.{direct-none, direct-more}
 use mathlib.Core.Path.{◌≡◌}
-use Prim.Native.Nat.{◌-◌}
 use native.Mathlib.Omega.{arith}
 use Rattle.recognised.proofs.lists.direct_delays.Goals as goal
 

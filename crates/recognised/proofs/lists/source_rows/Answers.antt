@@ -1,9 +1,8 @@
 use Rattle.recognised.proofs.Walks.{sources-none, sources-held, sources-skip, sources-row, whole_same}
 use Rattle.recognised.proofs.Cells.{tells_false}
-use Rattle.image.specs.Image.{source_row}
 use borrow.Author.Tests.{eqb-true, eqb-false}
 use mathlib.Core.Path.{◌≡◌}
-use Prim.Native.Nat.{◌+◌, ◌-◌}
+use Prim.Native.Nat.{◌+◌}
 use native.Mathlib.Omega.{arith}
 use Rattle.recognised.proofs.lists.source_rows.Goals as goal
 use Rattle.recognised.proofs.lists.source_rows.Goals.{then-kind-p-eq0+else-q-c+else-not-source_row, else-kind-p-eq0}

@@ -4,7 +4,7 @@ use Rattle.rows.specs.Rows.{field}
 use Rattle.delays.specs.Cells.{grid}
 use Rattle.delays.specs.Lists.{sourced}
 use borrow.Author.Tests.{eqb-true, eqb-false}
-use Prim.Native.Nat.{ℕ, ◌+◌, ◌-◌}
+use Prim.Native.Nat.{ℕ, ◌+◌}
 use Rattle.recognised.proofs.Cells.{tells_false}
 use native.Mathlib.Omega.{arith}
 use Rattle.recognised.proofs.lists.source_table.Goals as goal

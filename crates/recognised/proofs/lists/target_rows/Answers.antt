@@ -1,11 +1,10 @@
 use Rattle.recognised.proofs.Walks.{targets-none, targets-held, targets-skip, targets-row, whole_same}
 use Rattle.recognised.proofs.Cells.{tells_false}
 use Rattle.recognised.specs.Walks.{onward}
-use Rattle.image.specs.Image.{target_row}
 use Rattle.delays.specs.Cells.{grid}
 use borrow.Author.Tests.{eqb-true, eqb-false}
 use mathlib.Core.Path.{◌≡◌, sym, ◌∙◌}
-use Prim.Native.Nat.{◌+◌, ◌-◌}
+use Prim.Native.Nat.{◌+◌}
 use native.Mathlib.Omega.{arith}
 use Rattle.recognised.proofs.lists.target_rows.Goals as goal
 use Rattle.recognised.proofs.lists.target_rows.Goals.{then-leads+else-q-c+else-not-target_row, else-leads}

@@ -5,7 +5,7 @@ use Rattle.rows.specs.Rows.{downstream_first, downstream_count}
 use Rattle.delays.specs.Cells.{grid}
 use Rattle.delays.specs.Lists.{passing}
 use borrow.Author.Tests.{eqb-true, eqb-false}
-use Prim.Native.Nat.{ℕ, ◌-◌}
+use Prim.Native.Nat.{ℕ}
 use Rattle.recognised.proofs.Cells.{tells_false}
 use native.Mathlib.Omega.{arith}
 use Rattle.recognised.proofs.lists.target_table.Goals as goal

@@ -1,6 +1,5 @@
 use Rattle.recognised.proofs.Cells.{tells_true, tells_false}
 use Rattle.delays.specs.Cells.{grid}
-use Prim.Native.Nat.{◌-◌}
 use borrow.Author.Count.{below_more}
 use native.Mathlib.Omega.{arith}
 use Rattle.recognised.proofs.pairs.apart.Goals as goal

@@ -1,4 +1,3 @@
-use Prim.Native.Nat.{◌-◌}
 use Rattle.recognised.proofs.Cells.{tells_true, tells_false}
 use borrow.Author.Count.{below_more}
 use native.Mathlib.Omega.{arith}

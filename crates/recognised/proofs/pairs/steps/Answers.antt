@@ -1,7 +1,6 @@
 use Rattle.recognised.proofs.Cells.{covers-none, covers-edge}
 use Rattle.delays.specs.Cells.{grid}
 use mathlib.Core.Path.{◌≡◌}
-use Prim.Native.Nat.{◌-◌}
 use native.Mathlib.Omega.{arith}
 use Rattle.recognised.proofs.pairs.steps.Goals as goal
 

@@ -1,4 +1,3 @@
-use Prim.Native.Nat.{◌-◌}
 use mathlib.Core.Path.{◌≡◌}
 use Rattle.recognised.proofs.Cells.{swept_none, swept_more}
 use native.Mathlib.Omega.{arith}

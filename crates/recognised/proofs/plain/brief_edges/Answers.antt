@@ -1,4 +1,3 @@
-use Prim.Native.Nat.{◌-◌}
 use mathlib.Core.Path.{sym}
 use Rattle.recognised.proofs.Cells.{never}
 use borrow.Author.Count.{below_more}

@@ -1,4 +1,3 @@
-use Prim.Native.Nat.{◌-◌}
 use mathlib.Core.Path.{◌≡◌}
 use Rattle.recognised.proofs.Words.{passed_none, passed-more}
 use native.Mathlib.Omega.{arith}

@@ -1,4 +1,3 @@
-use Prim.Native.Nat.{◌-◌}
 use mathlib.Core.Path.{◌≡◌}
 use Rattle.recognised.specs.Words.{table}
 use Rattle.recognised.proofs.Words.{says_none, says-edge}

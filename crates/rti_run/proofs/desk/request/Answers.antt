@@ -4,4 +4,4 @@ use lib.Seq.{length-take-le}
 use Rattle.rti_run.proofs.desk.request.Goals as goal
 
 pub slice_bounds-ask-end : goal.slice_bounds-ask-end
-slice_bounds-ask-end c = sym (length-take-le _ _ (omega arith))
+slice_bounds-ask-end g c = sym (length-take-le _ _ (omega arith))
