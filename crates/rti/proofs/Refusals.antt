@@ -4,11 +4,11 @@ use Prim.Native.Nat.{ℕ, zero, suc, ◌+◌, ◌*◌, ◌<◌, ◌≤◌}
 use native.Mathlib.Omega.{arith}
 use mathlib.Core.Path.{◌≡◌, refl, sym, ap, ap₂, ◌∙◌}
 use mathlib.Core.Bool.{Bool, true, false}
-use mathlib.Core.List.{List, []}
+use mathlib.Core.List.{List}
 use lib.Dec.{ltb}
 use lib.ListN.{length, get_or}
 use borrow.Author.Tests.{ltb-false}
-use Rattle.basis.specs.Choice.{pick, not}
+use Rattle.basis.specs.Choice.{not}
 use Rattle.states.specs.declared.State.{State}
 use Rattle.states.specs.Steps.{Out, when, or_else}
 use Rattle.states.proofs.Memberwise.{else_zero, when-zero}
@@ -20,12 +20,12 @@ use Rattle.recognised.specs.Recognised.{refusal_in}
 use Rattle.recognised.proofs.Sits.{bytes_of}
 use Rattle.recognised.proofs.Usable.{usable}
 use Rattle.requests.specs.Asking.{asked_by}
-use Rattle.members.specs.Codes.{state_of, slab_of}
+use Rattle.members.specs.Codes.{state_of}
 use Rattle.members.specs.Formed.{formed}
 use Rattle.passes.specs.declared.Progress.{Progress}
 use Rattle.steps.specs.Steps.{Runs, Stands, Leaves}
 use Rattle.rti.specs.declared.Answer.{Answer}
-use Rattle.rti.specs.Entries.{open_refusal, abort_refusal, request_refusal, Outcome, leaving, refused_with, shown, judged}
+use Rattle.rti.specs.Entries.{open_refusal, abort_refusal, request_refusal, leaving, shown, judged}
 
 -- ---- the first that applies
 pub else_first : (a r : ℕ) → (a ≡ 0 → ⊥) → a ≡ or_else a r

@@ -1,6 +1,6 @@
 -- What each entry answers and leaves, for any input: the refusals 11 to 17 in the paper's order, then the session's step.
 -- Assumes nothing.
-use Rattle.std.specs.Prelude.{ℕ, zero, suc, ◌+◌, ◌*◌, Bool, true, false, List, [], ◌∷◌, ltb, length}
+use Rattle.std.specs.Prelude.{ℕ, zero, suc, ◌+◌, ◌*◌, Bool, true, false, List, [], ltb, length}
 use Rattle.basis.specs.Choice.{pick, not}
 use Rattle.basis.specs.Parts.{replaced}
 use Rattle.states.specs.declared.State.{State}

@@ -7,10 +7,9 @@ use mathlib.Core.Bool.{Bool, true, false}
 use mathlib.Core.Logic.{◌⊎◌, inl, inr, ⊎_elim}
 use mathlib.Core.List.{List}
 use lib.Dec.{ltb, eqb}
-use borrow.Author.Tests.{eqb-true, eqb-false, lt-ltb, ltb-true, ltb-false}
-use Rattle.basis.specs.Choice.{pick}
+use borrow.Author.Tests.{eqb-false, lt-ltb, ltb-true, ltb-false}
 use Rattle.tags.proofs.Order.{clash}
-use Rattle.plans.specs.Nets.{none, downstream}
+use Rattle.plans.specs.Nets.{none}
 use Rattle.states.proofs.Counts.{not_own}
 use Rattle.states.proofs.Laws.{eq-or-less}
 use Rattle.rows.specs.Rows.{members, downstream_target, downstream_first, downstream_count}

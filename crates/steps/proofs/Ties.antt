@@ -1,6 +1,6 @@
 -- What the parts of a step leave is what the session's step says.
 -- Assumes nothing.
-use Prim.Native.Nat.{ℕ, zero, suc, ◌+◌, ◌*◌, ◌<◌, ◌≤◌}
+use Prim.Native.Nat.{ℕ, zero, suc, ◌*◌, ◌<◌, ◌≤◌}
 use native.Mathlib.Omega.{arith}
 use mathlib.Core.Path.{◌≡◌, refl, sym, ap, ap₂, subst, ◌∙◌}
 use mathlib.Core.Bool.{Bool, true, false}
@@ -10,7 +10,6 @@ use lib.ListN.{length, get_or, drop}
 use Rattle.basis.specs.Choice.{pick, both}
 use Rattle.basis.specs.Parts.{replaced}
 use Rattle.basis.proofs.Parts.{replaced-none}
-use Rattle.tags.specs.declared.Tag.{Tag}
 use Rattle.tags.specs.Tags.{top}
 use Rattle.states.specs.declared.MemberState.{MemberState}
 use Rattle.states.specs.declared.State.{State}
@@ -24,26 +23,26 @@ use Rattle.states.specs.Sessions.{Member}
 use Rattle.plans.specs.Nets.{Net, downstream}
 use Rattle.states.proofs.Laws.{picked}
 use Rattle.states.proofs.Passes.{each_keeps}
-use Rattle.states.specs.Steps.{Pass, tell, each, visit, granting, grant_below, grants, at_rest, idling, idles, bounding, bounds}
-use Rattle.states.specs.Steps.{Out, every, to_all, code_of, code_given, refusal_of, effect, welcome, follow, accepted, answered, step, ended, abandon}
+use Rattle.states.specs.Steps.{Pass, each, visit, granting, grant_below, grants, at_rest, idling, idles, bounding, bounds}
+use Rattle.states.specs.Steps.{Out, every, to_all, code_of, code_given, refusal_of, effect, welcome, follow, accepted, answered, ended, abandon}
 use Rattle.states.proofs.Formed.{effect-sound}
-use Rattle.rows.specs.Rows.{Laid, members}
+use Rattle.rows.specs.Rows.{members}
 use Rattle.rows.specs.Nets.{net_in}
 use Rattle.rows.specs.Loops.{over_all}
-use Rattle.members.specs.Codes.{session_of, record_of, lays_of, state_of, slab_of}
+use Rattle.members.specs.Codes.{session_of, lays_of, state_of, slab_of}
 use Rattle.members.specs.Rules.{tags_to, earliest_at, completed_at}
 use Rattle.members.proofs.Nets.{net_count}
-use Rattle.members.proofs.Codes.{state-at, slab-length, slab-kept}
+use Rattle.members.proofs.Codes.{slab-length, slab-kept}
 use Rattle.members.proofs.Formed.{formed-sound, formed-state, formed-slab, sound-count, sound-holds}
 use Rattle.members.proofs.Rules.{Earliests, Completeds, earliests-low, completeds-low}
 use Rattle.members.proofs.Sessions.{sound-earliests, sound-completeds}
 use Rattle.members.proofs.Typed.{Typed}
 use Rattle.kinds.specs.declared.First.{First}
 use Rattle.kinds.specs.declared.First.TheVariants.{Nothing, Sends}
-use Rattle.kinds.specs.Effects.{firstly, sent_first}
+use Rattle.kinds.specs.Effects.{firstly}
 use Rattle.kinds.proofs.Effects.{abort-never}
 use Rattle.passes.specs.declared.Progress.{Progress}
-use Rattle.passes.specs.Pages.{Page, on, record_at, joined_at, start_at, fail_at, posting, follow_in, earliests_in, completeds_in, Ready}
+use Rattle.passes.specs.Pages.{Page, on, joined_at, start_at, fail_at, posting, follow_in, earliests_in, completeds_in, Ready}
 use Rattle.passes.specs.Ties.{Shows, all_words}
 use Rattle.passes.proofs.Ties.{record_shown, posting-shows, all-shows, follow-shows}
 use Rattle.steps.specs.Steps.{Runs, Stands, Leaves, unsent, welcome_in, ended_state, failed_in, opened_by, after_in, code_said, over_in, aborted_state}

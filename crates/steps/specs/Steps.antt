@@ -1,11 +1,10 @@
 -- What a step is handed, what it leaves, and each part of it on the state and the words that the code holds.
 -- Assumes nothing.
-use Rattle.std.specs.Prelude.{ℕ, ◌*◌, ◌≤◌, ◌≡◌, Bool, true, false, List, [], ◌∷◌, ltb, eqb, length}
+use Rattle.std.specs.Prelude.{ℕ, ◌*◌, ◌≤◌, ◌≡◌, Bool, true, false, List, ltb, eqb, length}
 use Rattle.basis.specs.Choice.{pick}
 use Rattle.states.specs.declared.State.{State}
 use Rattle.states.specs.declared.Request.{Request}
 use Rattle.states.specs.declared.Request.TheVariants.{Hello, Publish, Complete, Payload, ConfirmIdle, Stop, Abort}
-use Rattle.states.specs.declared.Delivery.{Delivery}
 use Rattle.states.specs.declared.Delivery.TheVariants.{Failed}
 use Rattle.states.specs.Steps.{Out, every}
 use Rattle.rows.specs.Rows.{Laid, members}

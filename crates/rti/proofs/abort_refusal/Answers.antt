@@ -1,4 +1,3 @@
-use borrow.Author.Tests.{not-true, not-false}
 use Rattle.basis.specs.Choice.{not}
 use Rattle.rti.proofs.Refusals.{else_holds}
 use mathlib.Core.Path.{sym, ap, ◌∙◌}

@@ -13,11 +13,11 @@ after-requires c =
     let e = c.effect-t.ensures in
     let f = c.first_delivery-f.result in
     let p = c.first-p in
-    (c.requires.0, c.requires.2, effect-ready _ c.requires.0 c.args.s _ c.requires.1 (typed c.args.s _ c.well_formed.1.0) c.args.i c.args.q c.requires.2 c.requires.3 c.requires.4 (λ k. omega (arith, c.slice_known-1.given k)) _ _ (opened-state f _ _ _ p.ensures ∙ e.0) e.1, omega (arith, opened-few f _ _ _ p.ensures, c.requires.5))
+    (c.requires.0, c.requires.2, effect-ready _ c.requires.0 c.args.s _ c.requires.1 (typed c.args.s _ c.well_formed.1.0) c.args.i c.args.q c.requires.2 c.requires.3 c.requires.4 (λ k. grind arith) _ _ (opened-state f _ _ _ p.ensures ∙ e.0) e.1, omega (arith, opened-few f _ _ _ p.ensures, c.requires.5))
 
 pub returns : goal.returns
 returns c =
     let e = c.effect-t.ensures in
     let f = c.first_delivery-f in
-    accept-leaves _ c.requires.0 c.args.s _ c.requires.1 (typed c.args.s _ c.well_formed.1.0) c.args.i c.args.q c.requires.2 c.requires.3 c.requires.4 (λ k. omega (arith, c.slice_known-1.given k)) f.result _ _ _ _ _ _
+    accept-leaves _ c.requires.0 c.args.s _ c.requires.1 (typed c.args.s _ c.well_formed.1.0) c.args.i c.args.q c.requires.2 c.requires.3 c.requires.4 (λ k. grind arith) f.result _ _ _ _ _ _
     (sent_is _ _ c.args.i c.args.q (routed _ c.requires.0.laid c.args.s _ c.requires.1.fits c.requires.1.formed (typed c.args.s _ c.well_formed.1.0).whole c.args.i c.args.q c.requires.3) ∙ sym f.ensures) e.0 e.1 c.first-p.ensures c.after.ensures
