@@ -1,4 +1,4 @@
 use Rattle.script.proofs.main.Given as goal
 
 abbrev pub decreases-loop-turns : goal.decreases-loop-turns
-decreases-loop-turns g l = l.turns
+decreases-loop-turns l = l.turns
