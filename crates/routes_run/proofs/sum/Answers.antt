@@ -1,4 +1,4 @@
-use Rattle.std.proofs.Common.{◌-◌, arith}
+use Rattle.std.proofs.Common.{arith}
 use Rattle.routes_run.proofs.sum.Goals as goal
 
 pub loop-i-smaller : goal.loop-i-smaller
