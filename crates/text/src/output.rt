@@ -1,6 +1,7 @@
 // Answers, gathered in a lent buffer that is written to standard output when it is full. Each function takes the place after
-// what is gathered, and answers the next such place, or the error of a write that failed.
-ghost use Rattle.std.specs.Prelude.{◌≤◌};
+// what is gathered, and answers the next such place, or the error of a write that failed, and of nothing else: then some bytes
+// of the buffer may be others, and it is as long as it was.
+ghost use Rattle.std.specs.Prelude.{◌≡◌, ◌≤◌, length};
 
 use std::io;
 
@@ -26,7 +27,9 @@ fn put_byte(rt: &impl Print, out: &mut [u8], at: usize, b: u8) -> io::Result<usi
 }
 
 // A text.
-pub fn put(rt: &impl Print, out: &mut [u8], at: usize, text: &[u8]) -> io::Result<usize> {
+pub fn put(rt: &impl Print, out: &mut [u8], at: usize, text: &[u8]) -> io::Result<usize>
+    ensures { length out.new ≡ length out.old }
+{
     let mut next = at;
     let mut i: usize = 0;
     while i < text.len() {
@@ -37,13 +40,17 @@ pub fn put(rt: &impl Print, out: &mut [u8], at: usize, text: &[u8]) -> io::Resul
 }
 
 // A number in decimal.
-pub fn put_decimal(rt: &impl Print, out: &mut [u8], at: usize, n: u64) -> io::Result<usize> {
+pub fn put_decimal(rt: &impl Print, out: &mut [u8], at: usize, n: u64) -> io::Result<usize>
+    ensures { length out.new ≡ length out.old }
+{
     let mut digits = itoa::Buffer::new();
     put(rt, out, at, digits.format(n).as_bytes())
 }
 
 // A space and a number.
-pub fn put_item(rt: &impl Print, out: &mut [u8], at: usize, n: u64) -> io::Result<usize> {
+pub fn put_item(rt: &impl Print, out: &mut [u8], at: usize, n: u64) -> io::Result<usize>
+    ensures { length out.new ≡ length out.old }
+{
     let next = put(rt, out, at, b" ")?;
     put_decimal(rt, out, next, n)
 }
@@ -62,7 +69,9 @@ fn put_pair(rt: &impl Print, out: &mut [u8], at: usize, b: u8) -> io::Result<usi
 }
 
 // Bytes in lowercase hex.
-pub fn put_hex(rt: &impl Print, out: &mut [u8], at: usize, bytes: &[u8]) -> io::Result<usize> {
+pub fn put_hex(rt: &impl Print, out: &mut [u8], at: usize, bytes: &[u8]) -> io::Result<usize>
+    ensures { length out.new ≡ length out.old }
+{
     let mut next = at;
     let mut i: usize = 0;
     while i < bytes.len() {
