@@ -5,12 +5,15 @@ use mathlib.Core.Path.{◌≡◌, refl, sym, ap, ◌∙◌}
 use mathlib.Core.List.{List, [], ◌∷◌, ◌++◌}
 use native.Mathlib.Omega.{arith}
 use native.Mathlib.Numerals.{add-one}
-use native.Mathlib.Nat.{pow-zero, pow-succ', mul_assoc, div-div-eq-div-mul, div-one, div-add-mod, suc-add, zero-add, one-mul}
-use lib.ListN.{length, get_or, set, take, drop, length-drop, length-set}
-use lib.Seq.{drop-cons, take-add, drop-drop, length-take-le}
+use native.Mathlib.Nat.{pow-zero, pow-suc, pow-succ', mul_assoc, mul_comm, div-div-eq-div-mul, div-one, suc-add, zero-add, one-mul}
+use lib.ListN.{length, get_or, take, drop, length-drop}
+use lib.Seq.{drop-cons, take-add, take-suc, drop-drop, length-take-le}
+use borrow.Rule.Slice.PartMut.{put_mid}
+use Rattle.std.specs.Int.{sum_through, byte_worth, byte_at, bytes_low_first}
+use Rattle.std.proofs.lemmas.List.{take_all}
 use Rattle.basis.specs.Numbers.{bytes, number, number_at}
 use Rattle.basis.specs.Parts.{part, replaced}
-use Rattle.basis.proofs.Parts.{replaced-none, replaced-more, replaced-join, part-replaced}
+use Rattle.basis.proofs.Parts.{part-replaced}
 
 pub length-bytes : (k n : ℕ) → length (bytes k n) ≡ k
 unfolding bytes
@@ -72,51 +75,39 @@ unfolding number_at
 at-add j k i l h =
     rw (take-add j k (drop i l), drop-drop j i l, number_append (take j (drop i l)) (take k (drop (i + j) l)), length-take-le j (drop i l) (simp length-drop (omega arith)))
 
--- the number of four bytes, byte by byte
-pub at-four : (i : ℕ) (l : List ℕ) → i + 4 ≤ length l → number_at 4 i l ≡ get_or l i 0 + 256 * get_or l (i + 1) 0 + 65536 * get_or l (i + 2) 0 + 16777216 * get_or l (i + 3) 0
-at-four i l h =
-    let two : i + 1 + 1 ≡ i + 2 = omega arith in
-    let three : i + 2 + 1 ≡ i + 3 = omega arith in
-    rw (at_more 3 i l (omega arith), at_more 2 (i + 1) l (omega arith), at_more 1 (i + 1 + 1) l (omega arith), at_more 0 (i + 1 + 1 + 1) l (omega arith), at_none, two, three) (omega arith)
+-- ---- std's bytes of a number
+pub le-number : (k : ℕ) (bs : List ℕ) → k < length bs → sum_through (λ i. byte_worth i (get_or bs i 0)) k ≡ number (take (suc k) bs)
+unfolding number
+le-number zero bs l = rw (take-suc bs 0 0 l) (omega arith)
+le-number (suc k) bs l =
+    let m : length (take (suc k) bs) ≡ suc k = length-take-le (suc k) bs (omega arith) in
+    rw (take-suc bs (suc k) 0 l, number_append (take (suc k) bs) (get_or bs (suc k) 0 ∷ []), m, ← le-number k bs (omega arith), mul_comm (get_or bs (suc k) 0) (256 ^ suc k)) (omega arith)
 
--- four bytes stored, one after the other
-pub four-stored : (v i : ℕ) (l : List ℕ) → i + 4 ≤ length l → set (set (set (set l i (v % 256)) (i + 1) (v / 256 % 256)) (i + 2) (v / 256 / 256 % 256)) (i + 3) (v / 256 / 256 / 256 % 256) ≡ replaced i (bytes 4 v) l
+-- the number in k bytes at a place, as std reads them
+pub le-at : (k i : ℕ) (l bs : List ℕ) → i + suc k ≤ length l → bs ≡ take (suc k) (drop i l) → sum_through (λ j. byte_worth j (get_or bs j 0)) k ≡ number_at (suc k) i l
+unfolding number_at
+le-at k i l bs h e =
+    let n : length bs ≡ suc k = ap length e ∙ length-take-le (suc k) (drop i l) (simp length-drop (omega arith)) in
+    le-number k bs (omega arith) ∙ ap number (take_all (suc k) bs (omega arith) ∙ e)
+
+-- byte i and those above it
+pub le-bytes : (k i n : ℕ) → bytes_low_first i k n ≡ bytes k (n / 256 ^ i)
 unfolding bytes
-four-stored v i l h =
-    let b = v / 256 % 256 in
-    let c = v / 256 / 256 % 256 in
-    let d = v / 256 / 256 / 256 % 256 in
-    let two : i + 1 + 1 ≡ i + 2 = omega arith in
-    let three : i + 2 + 1 ≡ i + 3 = omega arith in
-    let m = set l i (v % 256) in
-    sym (replaced-more i (v % 256) (b ∷ c ∷ d ∷ []) l h
-    ∙ replaced-more (i + 1) b (c ∷ d ∷ []) m (simp length-set (omega arith))
-    ∙ ap (λ (k : ℕ). replaced k (c ∷ d ∷ []) (set m (i + 1) b)) two
-    ∙ replaced-more (i + 2) c (d ∷ []) (set m (i + 1) b) (simp length-set (omega arith))
-    ∙ ap (λ (k : ℕ). replaced k (d ∷ []) (set (set m (i + 1) b) (i + 2) c)) three
-    ∙ replaced-more (i + 3) d [] (set (set m (i + 1) b) (i + 2) c) (simp length-set (omega arith))
-    ∙ replaced-none (i + 3 + 1) (set (set (set m (i + 1) b) (i + 2) c) (i + 3) d))
+le-bytes zero i n = refl
+le-bytes (suc k) i n =
+    let q : n / 256 ^ i / 256 ≡ n / 256 ^ suc i = div-div-eq-div-mul n (256 ^ i) 256 ∙ ap (λ (m : ℕ). n / m) (sym (pow-suc 256 i)) in
+    rw (q, byte-is i) (ap (λ (l : List ℕ). n / 256 ^ i % 256 ∷ l) (le-bytes k (suc i) n))
+  where
+    byte-is : (i : ℕ) → byte_at i n ≡ n / 256 ^ i % 256
+    byte-is zero = rw (pow-zero 256, div-one n) refl
+    byte-is (suc i) = refl
 
--- what stands above k bytes does not show in them
-pub bytes_low : (k q r : ℕ) → bytes k (256 ^ k * q + r) ≡ bytes k r
-unfolding bytes
-bytes_low zero q r = refl
-bytes_low (suc k) q r =
-    let x = 256 ^ k * q in
-    let low : (256 * x + r) % 256 ≡ r % 256 = omega arith in
-    let high : (256 * x + r) / 256 ≡ x + r / 256 = omega arith in
-    rw (pow-succ' 256 k, mul_assoc 256 (256 ^ k) q, low, high, bytes_low k q (r / 256))
-
-low-four : (v : ℕ) → bytes 4 (v % 4294967296) ≡ bytes 4 v
-low-four v = sym (bytes_low 4 (v / 4294967296) (v % 4294967296)) ∙ ap (bytes 4) (div-add-mod v 4294967296)
-
--- four bytes stored, then four more behind them
-pub eight-stored : (v i : ℕ) (l : List ℕ) → i ≤ length l → replaced (i + 4) (bytes 4 (v / 4294967296)) (replaced i (bytes 4 (v % 4294967296)) l) ≡ replaced i (bytes 8 v) l
-eight-stored v i l h =
-    rw low-four
-    (ap (λ (k : ℕ). replaced (i + k) (bytes 4 (v / 4294967296)) (replaced i (bytes 4 v) l)) (sym (length-bytes 4 v))
-    ∙ replaced-join i (bytes 4 v) (bytes 4 (v / 4294967296)) l h
-    ∙ ap (λ (xs : List ℕ). replaced i xs l) (sym (bytes-add 4 4 v)))
+-- what is put in the place of as many bytes
+pub put-replaced : (k n i m : ℕ) (l ys : List ℕ) → m ≡ k → ys ≡ bytes_low_first 0 k n → put_mid i m l ys ≡ replaced i (bytes k n) l
+unfolding replaced
+put-replaced k n i m l ys e q =
+    let b : ys ≡ bytes k n = q ∙ le-bytes k 0 n ∙ rw (pow-zero 256, div-one n) refl in
+    rw (b, e, length-bytes k n) (ap (λ (r : List ℕ). take i l ++ (bytes k n ++ r)) (drop-drop k i l))
 
 -- ---- what was written is read back
 pub at-replaced : (k n i : ℕ) (l : List ℕ) → n < 256 ^ k → i + k ≤ length l → number_at k i (replaced i (bytes k n) l) ≡ n

@@ -1,20 +1,22 @@
 -- Laws of the cells: what a kind byte and a word say, and what a store leaves.
 -- Assumes nothing.
 use mathlib.Core.Bool.{true, false}
-use mathlib.Core.Path.{◌≡◌, refl, sym, subst, ◌∙◌}
+use mathlib.Core.Path.{◌≡◌, refl, sym, subst, ap₂, ◌∙◌}
 use mathlib.Core.Logic.{◌⊎◌, ⊎_elim, inl, inr}
 use mathlib.Core.List.{List}
-use Prim.Native.Nat.{ℕ, ◌+◌, ◌*◌, ◌/◌, ◌%◌, ◌<◌, ◌≤◌, min}
+use Prim.Native.Nat.{ℕ, ◌+◌, ◌*◌, ◌/◌, ◌%◌, ◌<◌, ◌≤◌, min, max}
 use native.Mathlib.Nat.{eq-or-lt_of_le}
 use native.Mathlib.Decide.{ℕ_discrete}
 use lib.Dec.{eqb, ltb, leb}
-use lib.ListN.{get_or, set, length}
+use lib.ListN.{get_or, set, length, replicate}
+use Rattle.std.proofs.lemmas.List.{get_or-replicate}
 use lib.Seq.{get_or-set_same, get_or-set_other, ext_get_or}
 use native.Mathlib.Omega.{arith}
 use borrow.Author.Tests.{eq-eqb, ne_eqb, lt-ltb, le-ltb, le-leb, lt-leb}
 use Rattle.basis.specs.Choice.{pick}
 use Rattle.delays.specs.Graph.{far, none, plus, reach_of}
-use Rattle.delays.specs.Cells.{cell, kind_of, word_of, Plain, Tidy, entry, grid, Holds, Held, Relaxed, Offered, Cleared, Inside}
+use Rattle.delays.specs.declared.Reach.{Reach}
+use Rattle.delays.specs.Cells.{cell, dist_of, kind_of, word_of, Plain, Tidy, entry, grid, Holds, Held, Relaxed, Offered, Cleared}
 use Rattle.delays.proofs.Walks.{le-or-lt, of-near, of-far, of_none, Size, near, just, past, size}
 use Rattle.delays.specs.declared.Reach.TheVariants.{At, TooFar, None}
 
@@ -54,85 +56,23 @@ cell-top k v = go (kind k v)
     go (is-far p e) = omega arith
     go (is_none p e) = omega arith
 
-pub cell-near : (k v : ℕ) → k ≤ 1 → cell k v ≤ far
-cell-near k v h = go (kind k v)
-  where
-    go : Kind k v → cell k v ≤ far
-    go (is_at p e) = omega arith
-    go (is-far p e) = omega arith
-    go (is_none p e) = omega arith
+-- with a leg that has no delay, the farther leg is the sum
+pub dist-top : (a : Reach) → dist_of a ≤ none
+dist-top (At v) = omega arith
+dist-top TooFar = omega arith
+dist-top None = omega arith
 
--- a smaller kind is nearer, and of one kind the smaller word
-pub cell-less : (k v k' v' : ℕ) → k < k' → cell k v ≤ cell k' v'
-cell-less k v k' v' h = go (kind k v) (kind k' v')
-  where
-    go : Kind k v → Kind k' v' → cell k v ≤ cell k' v'
-    go (is_at p e) (is_at q f) = omega arith
-    go (is_at p e) (is-far q f) = omega arith
-    go (is_at p e) (is_none q f) = omega arith
-    go (is-far p e) (is_at q f) = omega arith
-    go (is-far p e) (is-far q f) = omega arith
-    go (is-far p e) (is_none q f) = omega arith
-    go (is_none p e) (is_at q f) = omega arith
-    go (is_none p e) (is-far q f) = omega arith
-    go (is_none p e) (is_none q f) = omega arith
-
-pub cell_same : (k v k' v' : ℕ) → k' ≤ k → k ≤ k' → v ≤ v' → cell k v ≤ cell k' v'
-cell_same k v k' v' a b h = go (kind k v) (kind k' v')
-  where
-    go : Kind k v → Kind k' v' → cell k v ≤ cell k' v'
-    go (is_at p e) (is_at q f) = omega arith
-    go (is_at p e) (is-far q f) = omega arith
-    go (is_at p e) (is_none q f) = omega arith
-    go (is-far p e) (is_at q f) = omega arith
-    go (is-far p e) (is-far q f) = omega arith
-    go (is-far p e) (is_none q f) = omega arith
-    go (is_none p e) (is_at q f) = omega arith
-    go (is_none p e) (is-far q f) = omega arith
-    go (is_none p e) (is_none q f) = omega arith
-
--- what the arms of `sum` return
-pub sum-none : (k v k' v' : ℕ) → (1 < k) ⊎ (1 < k') → cell 2 0 ≡ plus (cell k v) (cell k' v')
+pub sum-left : (a b : Reach) → ((x : ℕ) → a ≡ At x → ⊥) → max (dist_of a) (dist_of b) ≡ plus (dist_of a) (dist_of b)
 unfolding plus
-sum-none k v k' v' (inl h) = omega (arith, cell-none 2 0 (omega arith), cell-none k v h, cell-top k' v')
-sum-none k v k' v' (inr h) = omega (arith, cell-none 2 0 (omega arith), cell-none k' v' h, cell-top k v)
+sum-left (At v) b n = absurd (n v refl)
+sum-left TooFar b n = omega (arith, dist-top b)
+sum-left None b n = omega (arith, dist-top b)
 
-pub sum-far : (x y : ℕ) → x ≤ far → y ≤ far → far ≤ x + y → cell 1 0 ≡ plus x y
+pub sum-right : (a b : Reach) → ((x : ℕ) → b ≡ At x → ⊥) → max (dist_of a) (dist_of b) ≡ plus (dist_of a) (dist_of b)
 unfolding plus
-sum-far x y a b h = omega (arith, cell-far 1 0 refl)
-
-pub sum-at : (k v k' v' : ℕ) → k ≡ 0 → k' ≡ 0 → v + v' < far → cell 0 (v + v') ≡ plus (cell k v) (cell k' v')
-unfolding plus
-sum-at k v k' v' p q h =
-    omega (arith, cell_at 0 (v + v') refl h, cell_at k v p (omega arith), cell_at k' v' q (omega arith))
-
--- a store at p of a plain cell keeps a tidy matrix tidy
-pub tidied : (ks vs : List ℕ) (p k v : ℕ) → p < length ks → p < length vs → (Tidy ks vs → Plain k v) → Tidy ks vs → Tidy (set ks p k) (set vs p v)
-tidied ks vs p k v hk hv new T = record { at = λ q l. at q l (ℕ_discrete q p) }
-  where
-    at : (q : ℕ) → q < 1024 → Dec (q ≡ p) → Plain (get_or (set ks p k) q 0) (get_or (set vs p v) q 0)
-    at q l (yes e) = rw e (rw (get_or-set_same ks p k 0 hk, get_or-set_same vs p v 0 hv) (new T))
-    at q l (no n) = rw (get_or-set_other ks p q k 0 n, get_or-set_other vs p q v 0 n) (T.at q l)
-
--- a store of k and v at p, whose cell is the least of the entry there and the way by a and b
-pub stored : (ks vs : List ℕ) (p a b k v x : ℕ) → p < length ks → p < length vs → cell k v ≡ min (entry ks vs p) x
-    → x ≡ plus (entry ks vs a) (entry ks vs b) → (Tidy ks vs → Plain k v) → Relaxed ks vs (set ks p k) (set vs p v) p a b
-stored ks vs p a b k v x hk hv e f new =
-    record {
-      here = rw (get_or-set_same ks p k 0 hk, get_or-set_same vs p v 0 hv) (rw (e, f) refl);
-      there = λ q n. rw (get_or-set_other ks p q k 0 n, get_or-set_other vs p q v 0 n) refl;
-      tidy = tidied ks vs p k v hk hv new;
-    }
-
--- a store of k and v at p, whose cell is the least of the entry there and d
-pub put : (ks vs : List ℕ) (p d k v : ℕ) → p < length ks → p < length vs → d < far → cell k v ≡ min (entry ks vs p) (cell 0 d)
-    → (Tidy ks vs → Plain k v) → Offered ks vs (set ks p k) (set vs p v) p d
-put ks vs p d k v hk hv hd e new =
-    record {
-      here = rw (get_or-set_same ks p k 0 hk, get_or-set_same vs p v 0 hv) (rw (e, cell_at 0 d refl hd) refl);
-      there = λ q n. rw (get_or-set_other ks p q k 0 n, get_or-set_other vs p q v 0 n) refl;
-      tidy = tidied ks vs p k v hk hv new;
-    }
+sum-right a (At v) n = absurd (n v refl)
+sum-right a TooFar n = omega (arith, dist-top a)
+sum-right a None n = omega (arith, dist-top a)
 
 pub plain_word : (v : ℕ) → Plain 0 v
 plain_word v = record { kind = omega arith; word = λ h. absurd (omega arith) }
@@ -143,34 +83,62 @@ plain-far = record { kind = omega arith; word = λ h. refl }
 pub plain-none : Plain 2 0
 plain-none = record { kind = omega arith; word = λ h. refl }
 
-pub cleared-none : (ks vs : List ℕ) → Cleared ks vs 0
-cleared-none ks vs = record { done = λ q h. absurd (omega arith); plain = λ q h. absurd (omega arith) }
-
-pub cleared_more : (ks vs : List ℕ) (p : ℕ) → p < length ks → p < length vs → Cleared ks vs p → Cleared (set ks p 2) (set vs p 0) (p + 1)
-cleared_more ks vs p hp hv C = record { done = λ q h. done q h (ℕ_discrete q p); plain = λ q h. plain q h (ℕ_discrete q p) }
+plain_of : (v : ℕ) → Plain (kind_of v) (word_of v)
+unfolding kind_of word_of
+plain_of v = go (size v)
   where
-    done : (q : ℕ) → q < p + 1 → Dec (q ≡ p) → entry (set ks p 2) (set vs p 0) q ≡ none
-    done q h (yes e) = rw e (rw (get_or-set_same ks p 2 0 hp) (cell-none 2 _ (omega arith)))
-    done q h (no n) = rw (get_or-set_other ks p q 2 0 n, get_or-set_other vs p q 0 0 n) (C.done q (omega arith))
+    go : Size v → Plain (pick (ltb v far) 0 (pick (leb v far) 1 2)) (pick (ltb v far) v 0)
+    go (near h) = simp (lt-ltb v far h) (plain_word v)
+    go (just h) = simp (le-ltb v far (omega arith), le-leb v far (omega arith)) plain-far
+    go (past h) = simp (le-ltb v far (omega arith), lt-leb v far (omega arith)) plain-none
 
-    plain : (q : ℕ) → q < p + 1 → Dec (q ≡ p) → Plain (get_or (set ks p 2) q 0) (get_or (set vs p 0) q 0)
-    plain q h (yes e) = rw e (rw (get_or-set_same ks p 2 0 hp, get_or-set_same vs p 0 0 hv) plain-none)
-    plain q h (no n) = rw (get_or-set_other ks p q 2 0 n, get_or-set_other vs p q 0 0 n) (C.plain q (omega arith))
-
-pub zero-at : (k v : ℕ) → k ≡ 0 → eqb v 0 ≡ eqb (cell k v) 0
-zero-at k v p = go (ℕ_discrete v 0)
+-- a store at p of a plain cell keeps a tidy matrix tidy
+pub tidied : (ks vs : List ℕ) (p k v : ℕ) → p < length ks → p < length vs → (Tidy ks vs → Plain k v) → Tidy ks vs → Tidy (set ks p k) (set vs p v)
+tidied ks vs p k v hk hv new T = record { at = λ q l. at q l (ℕ_discrete q p) }
   where
-    go : Dec (v ≡ 0) → eqb v 0 ≡ eqb (cell k v) 0
-    go (yes e) = eq-eqb v 0 e ∙ sym (eq-eqb (cell k v) 0 (omega (arith, cell_cut k v p)))
-    go (no n) = ne_eqb v 0 n ∙ sym (ne_eqb (cell k v) 0 (omega (arith, cell_cut k v p)))
+    at : (q : ℕ) → q < 1024 → Dec (q ≡ p) → Plain (get_or (set ks p k) q 0) (get_or (set vs p v) q 0)
+    at q l (yes e) = rw e (rw (get_or-set_same ks p k 0 hk, get_or-set_same vs p v 0 hv) (new T))
+    at q l (no n) = rw (get_or-set_other ks p q k 0 n, get_or-set_other vs p q v 0 n) (T.at q l)
 
-pub zero-not : (k v : ℕ) → (k ≡ 0 → ⊥) → false ≡ eqb (cell k v) 0
-zero-not k v n = sym (ne_eqb (cell k v) 0 (go (kind k v)))
+-- a store at p, as a number is written, of the least of the entry there and the way by a and b
+pub stored : (ks vs ks' vs' : List ℕ) (p a b d x y z s : ℕ) → p < length ks → p < length vs
+    → ks' ≡ set ks p (kind_of d) → vs' ≡ set vs p (word_of d) → entry ks' vs' p ≡ d → d ≡ min x s → s ≡ plus y z
+    → x ≡ entry ks vs p → y ≡ entry ks vs a → z ≡ entry ks vs b → Relaxed ks vs ks' vs' p a b
+stored ks vs ks' vs' p a b d x y z s hk hv k v w e f ex ey ez =
+    record {
+      here = w ∙ e ∙ ap₂ min ex (f ∙ ap₂ plus ey ez);
+      there = λ q n. rw (k, v, get_or-set_other ks p q (kind_of d) 0 n, get_or-set_other vs p q (word_of d) 0 n) refl;
+      tidy = λ T. rw (k, v) (tidied ks vs p (kind_of d) (word_of d) hk hv (λ _. plain_of d) T);
+    }
+
+-- a store at p, as a number is written, of the least of the entry there and d
+pub put : (ks vs ks' vs' : List ℕ) (p d m x : ℕ) → p < length ks → p < length vs → d < far
+    → ks' ≡ set ks p (kind_of m) → vs' ≡ set vs p (word_of m) → entry ks' vs' p ≡ m → m ≡ min x (min d far) → x ≡ entry ks vs p
+    → Offered ks vs ks' vs' p d
+put ks vs ks' vs' p d m x hk hv hd k v w e ex =
+    record {
+      here = w ∙ e ∙ ap₂ min ex (omega arith);
+      there = λ q n. rw (k, v, get_or-set_other ks p q (kind_of m) 0 n, get_or-set_other vs p q (word_of m) 0 n) refl;
+      tidy = λ T. rw (k, v) (tidied ks vs p (kind_of m) (word_of m) hk hv (λ _. plain_of m) T);
+    }
+
+pub cleared_of : (ks vs : List ℕ) → ks ≡ replicate 1024 2 → vs ≡ replicate 1024 0 → Cleared ks vs 1024
+cleared_of ks vs e f = rw (e, f) (record {
+  done = λ q h. rw (get_or-replicate {A = ℕ} 1024 q 2 0 h, get_or-replicate {A = ℕ} 1024 q 0 0 h) (cell-none 2 0 (omega arith));
+  plain = λ q h. rw (get_or-replicate {A = ℕ} 1024 q 2 0 h, get_or-replicate {A = ℕ} 1024 q 0 0 h) plain-none;
+})
+
+-- whether a number is 0, by its view
+pub zero-near : (v d : ℕ) → reach_of v ≡ At d → eqb d 0 ≡ eqb v 0
+zero-near v d q = go (size v)
   where
-    go : Kind k v → cell k v ≡ 0 → ⊥
-    go (is_at p e) z = n p
-    go (is-far p e) z = omega arith
-    go (is_none p e) z = omega arith
+    go : Size v → eqb d 0 ≡ eqb v 0
+    go (near h) = let e : d ≡ v = cc (of-near v h) in rw e refl
+    go (just h) = let z : ◌≡◌ {A = ℕ} 0 1 = cc (of-far v h) in absurd (omega arith)
+    go (past h) = let z : ◌≡◌ {A = ℕ} 0 1 = cc (of_none v h) in absurd (omega arith)
+
+pub zero-not : (v : ℕ) → ((d : ℕ) → reach_of v ≡ At d → ⊥) → false ≡ eqb v 0
+zero-not v n = sym (ne_eqb v 0 (λ e. n v (of-near v (omega arith))))
 
 -- whether a number is too far, by its view
 pub far-seen : (v : ℕ) → reach_of v ≡ TooFar → true ≡ eqb v far
@@ -181,21 +149,8 @@ far-seen v q = go (size v)
     go (just h) = sym (eq-eqb v far h)
     go (past h) = let z : ◌≡◌ {A = ℕ} 0 1 = cc (of_none v h) in absurd (omega arith)
 
-pub far-near : (v d : ℕ) → reach_of v ≡ At d → false ≡ eqb v far
-far-near v d q = go (size v)
-  where
-    go : Size v → false ≡ eqb v far
-    go (near h) = sym (ne_eqb v far (λ e. omega arith))
-    go (just h) = let z : ◌≡◌ {A = ℕ} 0 1 = cc (of-far v h) in absurd (omega arith)
-    go (past h) = sym (ne_eqb v far (λ e. omega arith))
-
-pub far_none : (v : ℕ) → reach_of v ≡ None → false ≡ eqb v far
-far_none v q = go (size v)
-  where
-    go : Size v → false ≡ eqb v far
-    go (near h) = sym (ne_eqb v far (λ e. omega arith))
-    go (just h) = let z : ◌≡◌ {A = ℕ} 0 1 = cc (of-far v h) in absurd (omega arith)
-    go (past h) = sym (ne_eqb v far (λ e. omega arith))
+pub far-not : (v : ℕ) → (reach_of v ≡ TooFar → ⊥) → false ≡ eqb v far
+far-not v n = sym (ne_eqb v far (λ e. n (of-far v e)))
 
 -- the view of a cell, by its kind
 pub reach-at : (k v : ℕ) → k ≡ 0 → v < far → At v ≡ reach_of (cell k v)
@@ -206,16 +161,6 @@ reach_far k v p = sym (of-far (cell k v) (cell-far k v p))
 
 pub reach-none : (k v : ℕ) → 1 < k → None ≡ reach_of (cell k v)
 reach-none k v p = sym (of_none (cell k v) (omega (arith, cell-none k v p)))
-
-pub inside-more : (src dst delay : List ℕ) (m n k : ℕ) → n ≤ k → Inside src dst delay m n → Inside src dst delay m k
-inside-more src dst delay m n k h I =
-    record {
-      sources = I.sources;
-      targets = I.targets;
-      costs = I.costs;
-      from = λ i l. omega (arith, I.from i l);
-      to = λ i l. omega (arith, I.to i l);
-    }
 
 -- a plain cell is written as its number is
 pub kind-of : (k v x : ℕ) → v < far → Plain k v → cell k v ≡ x → k ≡ kind_of x
@@ -249,14 +194,30 @@ held_of ks vs g w T H =
 pub holds_of : {ks vs : List ℕ} {g : ℕ → ℕ → ℕ} → Held ks vs g → Holds ks vs g
 holds_of H = record { at = H.at }
 
-plain_of : (v : ℕ) → Plain (kind_of v) (word_of v)
-unfolding kind_of word_of
-plain_of v = go (size v)
-  where
-    go : Size v → Plain (pick (ltb v far) 0 (pick (leb v far) 1 2)) (pick (ltb v far) v 0)
-    go (near h) = simp (lt-ltb v far h) (plain_word v)
-    go (just h) = simp (le-ltb v far (omega arith), le-leb v far (omega arith)) plain-far
-    go (past h) = simp (le-ltb v far (omega arith), lt-leb v far (omega arith)) plain-none
+-- how a view's number is written
+pub kind-near : (v : ℕ) → v < far → 0 ≡ kind_of (min v far)
+unfolding kind_of
+kind-near v h = let e : min v far ≡ v = omega arith in rw (e, lt-ltb v far h) refl
+
+pub kind-far : 1 ≡ kind_of far
+unfolding kind_of
+kind-far = refl
+
+pub kind-none : 2 ≡ kind_of none
+unfolding kind_of
+kind-none = refl
+
+pub word-near : (v : ℕ) → v < far → v ≡ word_of (min v far)
+unfolding word_of
+word-near v h = let e : min v far ≡ v = omega arith in rw (e, lt-ltb v far h) refl
+
+pub word-far : 0 ≡ word_of far
+unfolding word_of
+word-far = refl
+
+pub word-none : 0 ≡ word_of none
+unfolding word_of
+word-none = refl
 
 pub tidy_of : (ks vs : List ℕ) (g : ℕ → ℕ → ℕ) → Held ks vs g → Tidy ks vs
 tidy_of ks vs g H = record { at = at }

@@ -12,7 +12,7 @@ use lib.ListN.{get_or}
 use lib.Pow.{pow_mono}
 use Rattle.basis.specs.Choice.{pick, both}
 use Rattle.plans.specs.declared.Plan.{Plan}
-use Rattle.plans.specs.declared.Refusal.{Refusal}
+use Rattle.plans.specs.Numbers.{Reason}
 use Rattle.plans.specs.Values.{Fits}
 use Rattle.delays.specs.Graph.{far, EdgeOf, minimum_of}
 use Rattle.delays.specs.Refusals.{accepted, zero_cycle, too_far_from, first_loop, linked_by, component_of, cycle_of, far_target, far_source, far_of, or_else, judged, refusal_of}
@@ -94,8 +94,8 @@ pub record Apart (p : Plan) (a b : ℕ) : Type 0 where
   pub source_first : (s t : ℕ) → s < source → t < p.members → minimum_of p s t ≢ far
   pub target_first : (t : ℕ) → t < target → minimum_of p source t ≢ far
 
-numbered : {r s : Refusal} → r ≡ s → r.number ≡ s.number
-numbered e = ap (λ (x : Refusal). x.number) e
+numbered : {r s : Reason} → r ≡ s → r.number ≡ s.number
+numbered e = ap (λ (x : Reason). x.number) e
 
 module _ (p : Plan) (F : Fits p) (w : (i : ℕ) → get_or p.delays i 0 < far) where
   C : Cycles (EdgeOf p) (minimum_of p)
@@ -154,7 +154,7 @@ module _ (p : Plan) (F : Fits p) (w : (i : ℕ) → get_or p.delays i 0 < far) w
 
       go : Verdict (minimum_of p) p.ids p.members → Component (EdgeOf p) (refusal_of p).mask
       go (looped h e) =
-          rw (ap (λ (x : Refusal). x.mask) e)
+          rw (ap (λ (x : Reason). x.mask) e)
           (record {
             smallest = first_loop (minimum_of p) p.members;
             looped = (C.alone _).0 (loop-found (minimum_of p) p.members h);
@@ -201,8 +201,8 @@ module _ (p : Plan) (F : Fits p) (w : (i : ℕ) → get_or p.delays i 0 < far) w
             target = far_target (minimum_of p) p.members s;
             source_in = l;
             target_in = b;
-            source-id = ap (λ (x : Refusal). x.first) e;
-            target-id = ap (λ (x : Refusal). x.second) e;
+            source-id = ap (λ (x : Reason). x.first) e;
+            target-id = ap (λ (x : Reason). x.second) e;
             too_far = target_found (minimum_of p) p.members s b;
             source_first = source-before (minimum_of p) p.members;
             target_first = target-before (minimum_of p) p.members s;

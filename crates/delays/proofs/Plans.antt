@@ -9,20 +9,10 @@ use lib.ListN.{get_or}
 use Rattle.plans.specs.declared.Plan.{Plan}
 use Rattle.plans.specs.Values.{Fits}
 use Rattle.delays.specs.Graph.{far, none, direct_of, minimum_of}
-use Rattle.delays.specs.Cells.{Inside, Held, Closed, Spread}
+use Rattle.delays.specs.Cells.{Held, Closed, Spread}
 use Rattle.delays.proofs.Walks.{Edges}
 use Rattle.delays.proofs.Cells.{held_of, holds_of, tidy_of}
 use Rattle.delays.proofs.Rounds.{direct-outside, closed}
-
-pub inside_of : (p : Plan) → Fits p → Inside p.sources p.targets p.delays p.edges 32
-inside_of p F =
-    record {
-      sources = omega (arith, F.sources, F.routed);
-      targets = omega (arith, F.targets, F.routed);
-      costs = omega (arith, F.delays, F.routed);
-      from = λ i l. omega (arith, F.from i l, F.few);
-      to = λ i l. omega (arith, F.to i l, F.few);
-    }
 
 -- no path goes from or to a member that the plan has not
 pub outside_of : (p : Plan) → Fits p → (s t : ℕ) → (p.members ≤ s) ⊎ (p.members ≤ t) → direct_of p s t ≡ none

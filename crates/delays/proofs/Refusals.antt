@@ -10,11 +10,27 @@ use lib.Dec.{ltb, eqb}
 use lib.ListN.{get_or}
 use Rattle.basis.specs.Choice.{pick, both}
 use Rattle.plans.specs.declared.Plan.{Plan}
+use Rattle.plans.specs.declared.Refusal.{Refusal}
+use Rattle.plans.specs.declared.Refusal.TheVariants.{Malformed, TooManyMembers, TooManyEdges, Capacity, MemberTwice, EdgeTwice, Undeclared, ZeroCycle, TooFar, TooShort}
+use Rattle.plans.specs.Numbers.{reason_of}
 use Rattle.plans.specs.Values.{Fits}
 use Rattle.delays.specs.Graph.{far, minimum_of}
 use Rattle.delays.specs.Cells.{grid, Held}
 use Rattle.delays.specs.Refusals.{accepted, zero_cycle, too_far_from, first_loop, linked_by, component_of, cycle_of, far_target, far_source, far_of, or_else, judged, refusal_of}
 use Rattle.delays.proofs.Search.{first-hit, first-agree, mask-agree}
+
+-- a refusal has a number
+pub is_refused : (r : Refusal) → eqb (reason_of r).number 0 ≡ false
+is_refused Malformed = refl
+is_refused TooManyMembers = refl
+is_refused TooManyEdges = refl
+is_refused Capacity = refl
+is_refused (MemberTwice id) = refl
+is_refused (EdgeTwice id) = refl
+is_refused (Undeclared edge member) = refl
+is_refused (ZeroCycle mask) = refl
+is_refused (TooFar s t) = refl
+is_refused TooShort = refl
 
 -- the first source has a target
 pub target_in : (g : ℕ → ℕ → ℕ) (n s t : ℕ) → s ≡ far_source g n → s < n → t ≡ far_target g n s → t < n

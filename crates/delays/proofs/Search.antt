@@ -1,14 +1,17 @@
 -- Laws of the first place that passes, and of the mask.
 -- Assumes nothing.
 use mathlib.Core.Bool.{Bool, true, false}
-use mathlib.Core.Path.{◌≡◌, refl}
-use mathlib.Core.Logic.{⊎_elim}
-use Prim.Native.Nat.{ℕ, zero, suc, ◌+◌, ◌-◌, ◌*◌, ◌<◌, ◌≤◌, ◌^◌}
+use mathlib.Core.Path.{◌≡◌, refl, sym, ◌∙◌}
+use mathlib.Core.Logic.{◌⊎◌, ⊎_elim, inl, inr}
+use Prim.Native.Nat.{ℕ, zero, suc, ◌+◌, ◌-◌, ◌*◌, ◌%◌, ◌<◌, ◌≤◌, ◌^◌}
 use native.Mathlib.Omega.{arith}
 use native.Mathlib.Numerals.{add-one}
 use native.Mathlib.Nat.{eq-or-lt_of_le, pow-succ', pow-le-pow_right}
+use Rattle.std.proofs.Common.{Option, Some, None, IsSome, MatchOption}
+use Rattle.std.proofs.lemmas.Bool.{true≢false}
+use Rattle.delays.proofs.Walks.{le-or-lt}
 use Rattle.basis.specs.Choice.{pick}
-use Rattle.delays.specs.Search.{first, mask_of}
+use Rattle.delays.specs.Search.{first, Finds, mask_of}
 
 module _ (test : ℕ → Bool) where
   pub first-start : (n : ℕ) → first test 0 (n - 0) ≡ first test 0 n
@@ -68,6 +71,25 @@ module _ (test : ℕ → Bool) where
       go (does e) l r = let h = rw e at l in absurd (omega arith)
       go (fails e) l r = let h = rw e at l in ⊎_elim (λ q. rw (← q) e) (λ m. r (omega arith) h) (eq-or-lt_of_le a)
 
+-- what a search of the numbers below n answers
+pub finds : (test : ℕ → Bool) (n : ℕ) (r : Option ℕ)
+    → MatchOption r ((k : ℕ) → 0 ≤ k → k < n → test k ≡ false) (λ i. (0 ≤ i) × (i < n) × (test i ≡ true) × ((k : ℕ) → 0 ≤ k → k < i → test k ≡ false))
+    → Finds n (first test 0 n) r
+finds test n None h = ⊎_elim (λ e. e) (λ l. absurd (true≢false (sym (first-hit test 0 n (omega arith)) ∙ h _ (omega arith) l))) (eq-or-lt_of_le (omega (arith, (first-within test 0 n).1)))
+finds test n (Some i) h = (h.1, go (le-or-lt i (first test 0 n)))
+  where
+    go : (i ≤ first test 0 n) ⊎ (first test 0 n < i) → first test 0 n ≡ i
+    go (inr l) = absurd (true≢false (sym (first-hit test 0 n (omega (arith, h.1))) ∙ h.3 _ (omega arith) l))
+    go (inl l) = ⊎_elim (λ e. sym e) (λ m. absurd (true≢false (sym h.2 ∙ first-least test 0 n i (omega arith) m))) (eq-or-lt_of_le l)
+
+pub finds_none : {n i : ℕ} (r : Option ℕ) → Finds n i r → ((k : ℕ) → r ≡ Some k → ⊥) → i ≡ n
+finds_none None h n = h
+finds_none (Some k) h n = absurd (n k refl)
+
+pub finds_some : {n i : ℕ} (r : Option ℕ) → Finds n i r → i < n → IsSome r
+finds_some None h l = absurd (omega arith)
+finds_some (Some k) h l = refl
+
 -- tests that agree below i + k find the same
 pub first-agree : (f g : ℕ → Bool) (n : ℕ) → ((j : ℕ) → j < n → f j ≡ g j) → (i k : ℕ) → i + k ≤ n → first f i k ≡ first g i k
 unfolding first
@@ -79,17 +101,6 @@ unfolding mask_of
 mask-agree f g zero e = refl
 mask-agree f g (suc n) e = rw (e n (omega arith), mask-agree f g n (λ j l. e j (omega arith))) refl
 
--- one bit more
-pub mask-more : (test : ℕ → Bool) (j m b : ℕ) → m ≡ mask_of test j → b ≡ 2 ^ j → m + pick (test j) b 0 ≡ mask_of test (j + 1)
-unfolding mask_of
-mask-more test j m b e f = rw add-one (rw (e, f) refl)
-
-pub bit-more : (j b : ℕ) → b ≡ 2 ^ j → b * 2 ≡ 2 ^ (j + 1)
-bit-more j b e = rw (add-one, pow-succ' 2 j, e) (omega arith)
-
-pub bit-small : (j b : ℕ) → b ≡ 2 ^ j → j ≤ 32 → b ≤ 4294967296
-bit-small j b e h = rw e (pow-le-pow_right {n = 2} (omega arith) {i = j} {j = 32} h)
-
 pub mask-small : (test : ℕ → Bool) (n : ℕ) → mask_of test n < 2 ^ n
 unfolding mask_of
 mask-small test zero = omega arith
@@ -99,6 +110,17 @@ mask-small test (suc n) = go (test n) (mask-small test n)
     go true h = rw (pow-succ' 2 n) (omega arith)
     go false h = rw (pow-succ' 2 n) (omega arith)
 
-pub bit-set : (on : Bool) (b : ℕ) → pick on b 0 ≤ b
-bit-set true b = omega arith
-bit-set false b = omega arith
+-- a bit more or not, and that it fits
+bit-low : (j : ℕ) → j < 32 → 1 * 2 ^ j % 2 ^ 64 ≡ 2 ^ j
+bit-low j h = omega (arith, pow-le-pow_right {n = 2} (omega arith) {i = j} {j = 32} (omega arith))
+
+pub bit-fits : (m j : ℕ) → m < 2 ^ j → j < 32 → m + 1 * 2 ^ j % 2 ^ 64 < 2 ^ 64
+bit-fits m j l h = omega (arith, bit-low j h, pow-le-pow_right {n = 2} (omega arith) {i = j} {j = 32} (omega arith))
+
+pub mask-on : (test : ℕ → Bool) (j m x : ℕ) → m ≡ mask_of test j → test j ≡ true → j < 32 → x ≡ m + 1 * 2 ^ j % 2 ^ 64 → x ≡ mask_of test (j + 1)
+unfolding mask_of
+mask-on test j m x e t h f = rw (add-one, t) (omega (arith, bit-low j h))
+
+pub mask-off : (test : ℕ → Bool) (j m x : ℕ) → m ≡ mask_of test j → test j ≡ false → x ≡ m → x ≡ mask_of test (j + 1)
+unfolding mask_of
+mask-off test j m x e t f = rw (add-one, t) (omega arith)

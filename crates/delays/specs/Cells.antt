@@ -3,14 +3,18 @@
 use Rattle.std.specs.Prelude.{◌≡◌, ◌≢◌, ◌⊎◌, List, ℕ, ◌+◌, ◌*◌, ◌<◌, ◌≤◌, min, eqb, ltb, leb, get_or, length}
 use Rattle.basis.specs.Choice.{pick}
 use Rattle.delays.specs.Graph.{far, none, plus, next, via, direct}
-use Rattle.delays.specs.declared.Dist.{Dist}
+use Rattle.delays.specs.declared.Reach.{Reach}
+use Rattle.delays.specs.declared.Reach.TheVariants.{At, TooFar, None}
 
 -- what a kind byte and a word say: kind 0 the word, kind 1 too far, any other no path
 unfoldable pub cell : ℕ → ℕ → ℕ
 cell kind v = pick (eqb kind 0) (min v far) (pick (eqb kind 1) far none)
 
-abbrev pub dist_of : Dist → ℕ
-dist_of d = cell d.kind d.value
+-- the number of a view, as `cell` says it; `reach_of` goes back
+abbrev pub dist_of : Reach → ℕ
+dist_of (At v) = min v far
+dist_of TooFar = far
+dist_of None = none
 
 -- how a number is written: its kind byte, and its word
 unfoldable pub kind_of : ℕ → ℕ
@@ -26,14 +30,6 @@ pub record Plain (k v : ℕ) : Type 0 where
 
 pub record Tidy (ks vs : List ℕ) : Type 0 where
   pub at : (q : ℕ) → q < 1024 → Plain (get_or ks q 0) (get_or vs q 0)
-
-pub record Summed (a b r : Dist) : Type 0 where
-  pub sum : dist_of r ≡ plus (dist_of a) (dist_of b)
-  pub plain : Plain r.kind r.value
-
-pub record Chosen (a b r : Dist) : Type 0 where
-  pub least : dist_of r ≡ min (dist_of a) (dist_of b)
-  pub plain : Plain a.kind a.value → Plain b.kind b.value → Plain r.kind r.value
 
 -- the entry at a place of the two lists, and the matrix of 32 to a row
 abbrev pub entry : List ℕ → List ℕ → ℕ → ℕ
@@ -86,14 +82,6 @@ pub record Closed (ks vs ks' vs' : List ℕ) (n k : ℕ) : Type 0 where
 pub record Cleared (ks vs : List ℕ) (p : ℕ) : Type 0 where
   pub done : (q : ℕ) → q < p → entry ks vs q ≡ none
   pub plain : (q : ℕ) → q < p → Plain (get_or ks q 0) (get_or vs q 0)
-
--- the first m edges' three lists are long enough, and name members below n
-pub record Inside (src dst delay : List ℕ) (m n : ℕ) : Type 0 where
-  pub sources : m ≤ length src
-  pub targets : m ≤ length dst
-  pub costs : m ≤ length delay
-  pub from : (i : ℕ) → i < m → get_or src i 0 < n
-  pub to : (i : ℕ) → i < m → get_or dst i 0 < n
 
 -- the least delay of the first m edges, for every pair
 pub record Spread (src dst delay : List ℕ) (m : ℕ) (ks vs : List ℕ) : Type 0 where

@@ -1,11 +1,11 @@
 // Small plans at work: the refusal of each, then its direct and its minimum delays, a row for each source.
 #![tactic(auto)]
 
-ghost use Rattle.std.specs.Prelude.{◌≡◌, ◌+◌, ◌<◌, ◌≤◌, length};
+ghost use Rattle.std.specs.Prelude.{◌≡◌, ◌+◌, ◌<◌, ◌≤◌};
 ghost use Rattle.plans.specs.Values.{Fits};
 ghost use Rattle.delays_run.specs.Built.{Built};
 
-use delays::Reach;
+use delays::{Matrix, Reach};
 use plans::{Plan, Refusal};
 use std::io;
 
@@ -19,123 +19,83 @@ fn blank(n: usize) -> Plan
     requires { n ≤ 4 }
     ensures { Built result n 0 }
 {
-    let mut ids = [0u64; 32];
-    ids[0] = 10;
-    ids[1] = 20;
-    ids[2] = 30;
-    ids[3] = 40;
+    let mut ids = [0; 32];
+    ids[..4].copy_from_slice(&[10, 20, 30, 40]);
     Plan {
         members: n,
         edges: 0,
-        ids: ids,
-        capacities: [0u64; 32],
-        routes: [0u64; 256],
-        sources: [0u8; 256],
-        targets: [0u8; 256],
-        delays: [0u64; 256],
+        ids,
+        capacities: [0; 32],
+        routes: [0; 256],
+        sources: [0; 256],
+        targets: [0; 256],
+        delays: [0; 256],
     }
 }
 
 // The plan with one edge more, from member s to member t.
-fn with_edge(p: Plan, s: u8, t: u8, d: u64) -> Plan
+fn with_edge(mut p: Plan, s: u8, t: u8, d: u64) -> Plan
     requires { Fits p × (p.edges < 256) × (s < p.members) × (t < p.members) }
     ensures { Built result p.members (p.edges + 1) }
 {
     let at = p.edges;
-    let ids = p.ids;
-    let capacities = p.capacities;
-    let mut routes = p.routes;
-    let mut sources = p.sources;
-    let mut targets = p.targets;
-    let mut delays = p.delays;
-    routes[at] = at as u64 + 1;
-    sources[at] = s;
-    targets[at] = t;
-    delays[at] = d;
-    Plan {
-        members: p.members,
-        edges: at + 1,
-        ids: ids,
-        capacities: capacities,
-        routes: routes,
-        sources: sources,
-        targets: targets,
-        delays: delays,
-    }
-}
-
-fn text(rt: &impl Print, words: &str) -> io::Result<()> {
-    print!(rt; "{words}")
-}
-
-fn number(rt: &impl Print, n: u64) -> io::Result<()> {
-    print!(rt; "{n}")
+    p.routes[at] = at as u64 + 1;
+    p.sources[at] = s;
+    p.targets[at] = t;
+    p.delays[at] = d;
+    p.edges = at + 1;
+    p
 }
 
 // A delay, `far`, or `-` where there is no path.
-fn show_entry(rt: &impl Print, kind: &[u8], value: &[u64], s: usize, t: usize) -> io::Result<()>
-    requires { (length kind.now ≡ 1024) × (length value.now ≡ 1024) × (s < 32) × (t < 32) }
+fn show_entry(rt: &impl Print, m: &Matrix, s: usize, t: usize) -> io::Result<()>
+    requires { (s < 32) × (t < 32) }
 {
-    let reach = delays::read_reach(kind, value, s, t);
-    text(rt, " ")?;
-    match reach {
-        Reach::At(d) => number(rt, d)?,
-        Reach::TooFar => text(rt, "far")?,
-        Reach::None => text(rt, "-")?,
+    match m.reach(s, t) {
+        Reach::At(d) => print!(rt; " {d}"),
+        Reach::TooFar => print!(rt; " far"),
+        Reach::None => print!(rt; " -"),
+    }
+}
+
+// A row for each source.
+fn show_matrix(rt: &impl Print, m: &Matrix, n: usize) -> io::Result<()>
+    requires { n ≤ 32 }
+{
+    for s in 0..n {
+        for t in 0..n {
+            show_entry(rt, m, s, t)?;
+        }
+        println!(rt;)?;
     }
     Ok(())
 }
 
-fn show_row(rt: &impl Print, kind: &[u8], value: &[u64], n: usize, s: usize) -> io::Result<()>
-    requires { (length kind.now ≡ 1024) × (length value.now ≡ 1024) × (s < 32) × (n ≤ 32) }
-{
-    let mut t: usize = 0;
-    while t < n {
-        show_entry(rt, kind, value, s, t)?;
-        t += 1;
+// The refusal's number and what it gives, 0 where there is none.
+fn show_refusal(rt: &impl Print, judged: Result<(), Refusal>) -> io::Result<()> {
+    match judged {
+        Ok(()) => println!(rt; "refusal 0 mask 0 ids 0 0"),
+        Err(r) => {
+            let (number, mask) = (r.number(), r.mask());
+            let (first, second) = (r.first(), r.second());
+            println!(rt; "refusal {number} mask {mask} ids {first} {second}")
+        }
     }
-    text(rt, "\n")
-}
-
-fn show_matrix(rt: &impl Print, kind: &[u8], value: &[u64], n: usize) -> io::Result<()>
-    requires { (length kind.now ≡ 1024) × (length value.now ≡ 1024) × (n ≤ 32) }
-{
-    let mut s: usize = 0;
-    while s < n {
-        show_row(rt, kind, value, n, s)?;
-        s += 1;
-    }
-    Ok(())
-}
-
-fn show_refusal(rt: &impl Print, r: Refusal) -> io::Result<()> {
-    text(rt, "refusal ")?;
-    number(rt, r.number)?;
-    text(rt, " mask ")?;
-    number(rt, r.mask)?;
-    text(rt, " ids ")?;
-    number(rt, r.first)?;
-    text(rt, " ")?;
-    number(rt, r.second)?;
-    text(rt, "\n")
 }
 
 // The plan analysed and shown.
 fn show(rt: &impl Print, name: &str, p: Plan) -> io::Result<()>
     requires { Fits p }
 {
-    let mut directs = [0u8; 1024];
-    let mut distances = [0u64; 1024];
-    let mut kinds = [0u8; 1024];
-    let mut values = [0u64; 1024];
-    let r = delays::analyse(p, &mut directs, &mut distances, &mut kinds, &mut values);
-    text(rt, name)?;
-    text(rt, ": ")?;
-    show_refusal(rt, r)?;
-    text(rt, "direct\n")?;
-    show_matrix(rt, &directs, &distances, p.members)?;
-    text(rt, "minimum\n")?;
-    show_matrix(rt, &kinds, &values, p.members)
+    let mut directs = Matrix::new();
+    let mut minima = Matrix::new();
+    let judged = delays::analyse(p, &mut directs, &mut minima);
+    print!(rt; "{name}: ")?;
+    show_refusal(rt, judged)?;
+    println!(rt; "direct")?;
+    show_matrix(rt, &directs, p.members)?;
+    println!(rt; "minimum")?;
+    show_matrix(rt, &minima, p.members)
 }
 
 // Two edges of 2^63 in a row.

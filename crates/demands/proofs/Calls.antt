@@ -30,7 +30,7 @@ use Rattle.members.specs.Formed.{formed, formed_at, blank_at, every as everyOf}
 use Rattle.members.proofs.Codes.{view-at, slab-length}
 use Rattle.members.proofs.Nets.{net_count}
 use Rattle.passes.specs.Pages.{stopped_at}
-use Rattle.kinds.proofs.Tests.{every-same}
+use Rattle.states.proofs.Every.{every-same}
 use Rattle.rti.specs.Entries.{open_refusal, abort_refusal, request_refusal, shown, judged, opened as opened_by, handled, aborted as abortedBy, finished_state}
 use Rattle.rti.proofs.Refusals.{open_free, request-free}
 use Rattle.demands.specs.Histories.{Reached, opened as Reached·opened, asked as Reached·asked, aborted as Reached·aborted}
@@ -55,7 +55,7 @@ finished-is b e s slab h =
     let same = says-count (net_in b) s slab h ∙ net_count b in
     let few = (not-refused b e).few in
     go (ltb 0 s.cause) (ltb 32 s.count) (le-ltb 32 s.count (omega arith)) _ _
-    (every-same (stopped_at s) (λ k. (view (session_of s slab) k).stopped) s.count (λ k l. unfold stopped_at in sym (ap (λ (m : Member). m.stopped) (view-at s slab k l)))
+    (every-same (stopped_at s) (λ k. (view (session_of s slab) k).stopped) s.count (λ k l. sym (ap (λ (m : Member). m.stopped) (view-at s slab k l)))
     ∙ ap (every (λ k. (view (session_of s slab) k).stopped)) (says-count (net_in b) s slab h))
   where
     go : (a f : Bool) → f ≡ false → (x y : Bool) → x ≡ y → pick a true (pick f false x) ≡ either a y

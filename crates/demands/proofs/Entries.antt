@@ -6,6 +6,7 @@ use mathlib.Core.Path.{◌≡◌, refl, sym, ap, ◌∙◌}
 use mathlib.Core.Bool.{Bool, true, false}
 use mathlib.Core.List.{List, [], ◌∷◌, ◌++◌}
 use lib.Dec.{ltb, eqb}
+use Rattle.std.proofs.Common.{None, Some}
 use lib.ListN.{length, get_or, drop}
 use borrow.Author.Tests.{lt-ltb, le-ltb}
 use Rattle.basis.specs.Choice.{pick, not}
@@ -24,9 +25,7 @@ use Rattle.rows.specs.Plans.{plan_in}
 use Rattle.rows.specs.Nets.{net_in}
 use Rattle.recognised.specs.Recognised.{is_image, longer, refusal_in}
 use Rattle.recognised.proofs.Answers.{not-refused}
-use Rattle.requests.specs.declared.Form.{Form}
-use Rattle.requests.specs.declared.Form.TheVariants.{Asks, Malformed}
-use Rattle.requests.specs.Asking.{far_of, refused, judged_by, asked_by}
+use Rattle.requests.specs.Asking.{Form, far_of, refused, judged_by, asked_by}
 use Rattle.members.specs.Codes.{session_of, state_of, slab_of}
 use Rattle.members.specs.Formed.{formed}
 use Rattle.members.proofs.Codes.{session-length}
@@ -160,8 +159,8 @@ member-word l e = by_length (eqb (length l) 7) _ e
     near i q false z = refl
 
     formed-by : (i : ℕ) (f : Form) → (judged_by i f).number ≡ 0 → (judged_by i f).member ≡ i
-    formed-by i Malformed z = unfold judged_by in absurd (omega arith)
-    formed-by i (Asks q) z = unfold judged_by in near i q (far_of q) z
+    formed-by i None z = unfold judged_by in absurd (omega arith)
+    formed-by i (Some q) z = unfold judged_by in near i q (far_of q) z
 
     by_length : (b : Bool) (f : Form) → (pick b (judged_by (get_or l 0 0) f) (refused 16)).number ≡ 0 → (pick b (judged_by (get_or l 0 0) f) (refused 16)).member ≡ get_or l 0 0
     by_length true f z = formed-by (get_or l 0 0) f z

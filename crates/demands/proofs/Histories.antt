@@ -4,6 +4,7 @@ use Prim.Native.Nat.{ℕ, zero, suc, ◌<◌, ◌≤◌}
 use native.Mathlib.Omega.{arith}
 use mathlib.Core.Path.{◌≡◌, refl, sym, ap, ◌∙◌}
 use mathlib.Core.Bool.{Bool, true, false}
+use Rattle.std.proofs.Common.{Option, None, Some}
 use mathlib.Core.Logic.{⊎_elim}
 use mathlib.Core.List.{List, [], ◌∷◌}
 use lib.Dec.{ltb}
@@ -17,10 +18,6 @@ use Rattle.tags.proofs.Order.{clash, reflexive, trans, antisymmetric, forever-gr
 use Rattle.tags.proofs.Laws.{Small}
 use Rattle.plans.specs.Nets.{Net, Lawful, none, downstream}
 use Rattle.transit.specs.Tags.{insert, after, first_of}
-use Rattle.states.specs.declared.Next.TheVariants.{Quiet, Event}
-use Rattle.states.specs.declared.Publication.TheVariants.{Unpublished, Published}
-use Rattle.states.specs.declared.Limit.{Limit}
-use Rattle.states.specs.declared.Limit.TheVariants.{Absent, Upto}
 use Rattle.states.specs.declared.Request.{Request}
 use Rattle.states.specs.declared.Request.TheVariants.{Hello, Publish, Complete, Payload, ConfirmIdle, Stop, Abort}
 use Rattle.states.specs.Sessions.{Member, Session, or_never, blank, fresh, view, put, with_cause, with_joined, with_transit, with_asked, with_stopped}
@@ -31,7 +28,7 @@ use Rattle.states.proofs.Laws.{Le, picked, which, greatest-right}
 use Rattle.states.proofs.Passes.{put_other}
 use Rattle.states.proofs.Memberwise.{passed}
 use Rattle.states.proofs.Formed.{fresh-sound, step-sound, abandon-sound, everywhere}
-use Rattle.demands.specs.Histories.{Reached, opened, asked, aborted, refused, Answered, Moves}
+use Rattle.demands.specs.Histories.{event_at, Reached, opened, asked, aborted, refused, Answered, Moves}
 use Rattle.demands.proofs.Progress.{moves}
 use Rattle.demands.proofs.Horizons.{Settled, Inputs, horizon-same, same-settled, coming-none, done_none}
 use Rattle.demands.proofs.Changes.{SmallAll, SmallMember, earliest-small, Sane, Steady, put-sane, put-steady, put_light}
@@ -114,8 +111,8 @@ module _ (p : Net) (law : Lawful p) (s : Session) (h : Steady p s) (k : ℕ) (l 
   pub accepted-steady : (q : Request) → FitsRequest q → Steady p (accepted p s k q).session
   unfolding accepted effect welcome publishing
   accepted-steady (Hello d) a = put_light p s h k (with_joined (view s k)) record { publication = refl; transit = refl; completed = refl; revision = refl; granted = refl; awake = λ x. x }
-  accepted-steady (Publish r Quiet) a = own _ (tt, (h.sane.small k l).1) (effect p s k (Publish r Quiet)) refl
-  accepted-steady (Publish r (Event t)) a = own _ (fits-small t a, (h.sane.small k l).1) (effect p s k (Publish r (Event t))) refl
+  accepted-steady (Publish r None) a = own _ (tt, (h.sane.small k l).1) (effect p s k (Publish r None)) refl
+  accepted-steady (Publish r (Some t)) a = own _ (fits-small t a, (h.sane.small k l).1) (effect p s k (Publish r (Some t))) refl
   accepted-steady (Complete t) a = own _ ((h.sane.small k l).0, after_small t (view s k).transit (h.sane.small k l).1) (effect p s k (Complete t)) refl
   accepted-steady (Payload r t x) a =
       let j = (route_at p r).target in
@@ -152,7 +149,7 @@ fresh-steady p identity =
     at_i : (i : ℕ) → i < p.count → view (fresh p.count identity) i ≡ blank
     at_i i l = get_or-replicate p.count i blank blank l
 
-    blank-not : (r : ℕ) (e : Tag) → Unpublished ≡ Published r (Event e) → false ≡ true
+    blank-not : (r : ℕ) (e : Tag) → None ≡ event_at r e → false ≡ true
     blank-not r e z = cc
 
 abandon-steady : (p : Net) (s : Session) → Steady p s → (code : ℕ) → Steady p (abandon p s code).session
@@ -182,11 +179,11 @@ awake m h e = go m.stopped refl
     go false z = rw (e, z)
 
 -- a horizon that reaches a finite event is not NEVER
-reached : (l : Limit) (e h : Tag) → Word e → Le e h → Le h (or_never l) → Le (or_never l) h → l ≡ Upto h
-reached Absent Never h w a b c = absurd w
-reached Absent (Finite o m) h w a b c = clash (trans (Finite o m) h Never a b)
-reached Absent Forever h w a b c = absurd w
-reached (Upto t) e h w a b c = ap Upto (antisymmetric t h c b)
+reached : (l : Option Tag) (e h : Tag) → Word e → Le e h → Le h (or_never l) → Le (or_never l) h → l ≡ Some h
+reached None Never h w a b c = absurd w
+reached None (Finite o m) h w a b c = clash (trans (Finite o m) h Never a b)
+reached None Forever h w a b c = absurd w
+reached (Some t) e h w a b c = ap Some (antisymmetric t h c b)
 
 answered-of : (p : Net) (v : ℕ → Member) (j : ℕ) → WordNext (v j).publication → Settled p v j → Answered p v j
 unfolding horizon

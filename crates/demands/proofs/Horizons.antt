@@ -3,6 +3,8 @@
 use Prim.Native.Nat.{ℕ, ◌<◌, ◌≤◌}
 use mathlib.Core.Path.{◌≡◌, refl, sym, ap, ap₂, subst, ◌∙◌}
 use mathlib.Core.Bool.{Bool, true, false}
+use Rattle.std.proofs.Common.{Option, Some}
+use Rattle.demands.specs.Histories.{event_at}
 use lib.Dec.{ltb}
 use borrow.Author.Tests.{le-ltb}
 use Rattle.basis.specs.Choice.{pick}
@@ -12,18 +14,14 @@ use Rattle.tags.specs.Tags.{tag_le, delayed, pred_of, greatest_of}
 use Rattle.tags.proofs.Order.{trans, reflexive}
 use Rattle.tags.proofs.Laws.{Small, delay_monotone}
 use Rattle.plans.specs.Nets.{Net, none}
-use Rattle.states.specs.declared.Next.TheVariants.{Event}
-use Rattle.states.specs.declared.Publication.TheVariants.{Published}
-use Rattle.states.specs.declared.Mark.TheVariants.{At}
-use Rattle.states.specs.declared.Limit.{Limit}
 use Rattle.states.specs.Sessions.{Member, or_never}
 use Rattle.states.specs.Rules.{active, least_to, earliest, over, past, coming, done, arrivals, completions, horizon}
 use Rattle.states.proofs.Laws.{Le, picked, greatest-mono, greatest-under, greatest-left, pred_mono, delay-small, least-all, least-mono, least-same}
 
 -- Answered with "at or past" the horizon, as the proof carries it
 abbrev pub Settled : Net → (ℕ → Member) → ℕ → Type 0
-Settled p v j = (r : ℕ) (e : Tag) → (v j).publication ≡ Published r (Event e) → active (v j) ≡ true → tag_le e (horizon p v j) ≡ true
-    → ((v j).revision ≡ At r) × (tag_le (horizon p v j) (or_never (v j).granted) ≡ true)
+Settled p v j = (r : ℕ) (e : Tag) → (v j).publication ≡ event_at r e → active (v j) ≡ true → tag_le e (horizon p v j) ≡ true
+    → ((v j).revision ≡ Some r) × (tag_le (horizon p v j) (or_never (v j).granted) ≡ true)
 
 -- m' offers others no more than m
 pub record Inputs (m m' : Member) : Type 0 where
@@ -71,7 +69,7 @@ module _ (p : Net) (v v' : ℕ → Member) (j : ℕ) where
 
   pub completions-same : ((i : ℕ) → i < p.count → Inputs (v i) (v' i)) → completions p v' j ≡ completions p v j
   unfolding completions
-  completions-same h = least-same p.count (done p v' j) (done p v j) (λ i l. ap (λ (x : Limit). past (p.direct i j) (or_never x)) (h i l).completion)
+  completions-same h = least-same p.count (done p v' j) (done p v j) (λ i l. ap (λ (x : Option Tag). past (p.direct i j) (or_never x)) (h i l).completion)
 
   pub horizon-low : ((i : ℕ) → i < p.count → Inputs (v i) (v' i)) → (v' j).granted ≡ (v j).granted → Le (horizon p v' j) (horizon p v j)
   unfolding horizon

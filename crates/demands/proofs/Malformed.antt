@@ -7,19 +7,16 @@ use mathlib.Core.Path.{◌≡◌, refl, sym, ap, ◌∙◌}
 use mathlib.Core.Bool.{Bool, true, false}
 use mathlib.Core.List.{List, [], ◌∷◌}
 use lib.Dec.{ltb, eqb}
+use Rattle.std.proofs.Common.{None, Some}
 use lib.ListN.{length, get_or}
 use Rattle.basis.specs.Choice.{pick, not, both, either}
 use Rattle.tags.specs.declared.Tag.{Tag}
 use Rattle.tags.proofs.Order.{clash}
 use Rattle.transit.specs.Tags.{limit}
 use Rattle.states.specs.Steps.{any}
-use Rattle.states.specs.declared.Next.TheVariants.{Event}
 use Rattle.states.specs.declared.Request.{Request}
 use Rattle.states.specs.declared.Request.TheVariants.{Publish, Complete, Payload}
-use Rattle.requests.specs.declared.Form.TheVariants.{Asks}
-use Rattle.requests.specs.declared.Spoken.{Spoken}
-use Rattle.requests.specs.declared.Spoken.TheVariants.{Nothing, Tagged, Garbled}
-use Rattle.requests.specs.Asking.{spoken_by, publish_of, complete_of, payload_of, numberless_of, form_of, far_tag, far_of, refused, judged_by, asked_by}
+use Rattle.requests.specs.Asking.{Spoken, spoken_by, publish_of, complete_of, payload_of, numberless_of, form_of, far_tag, far_of, refused, judged_by, asked_by}
 use Rattle.demands.specs.Entries.{among, malformed, beyond}
 
 -- ---- the tag's words
@@ -32,9 +29,9 @@ abbrev stray : ℕ → ℕ → ℕ → Bool
 stray c o m = both (not (eqb c 1)) (not (both (eqb o 0) (eqb m 0)))
 
 data Heard (c o m : ℕ) : Spoken → Type 0 where
-  garbled : either (classless c) (stray c o m) ≡ true → Heard c o m Garbled
-  nothing : classless c ≡ false → stray c o m ≡ false → eqb c 3 ≡ true → eqb c 1 ≡ false → Heard c o m Nothing
-  tagged : {t : Tag} → classless c ≡ false → stray c o m ≡ false → eqb c 3 ≡ false → far_tag t ≡ both (eqb c 1) (ltb limit o) → Heard c o m (Tagged t)
+  garbled : either (classless c) (stray c o m) ≡ true → Heard c o m None
+  nothing : classless c ≡ false → stray c o m ≡ false → eqb c 3 ≡ true → eqb c 1 ≡ false → Heard c o m (Some None)
+  tagged : {t : Tag} → classless c ≡ false → stray c o m ≡ false → eqb c 3 ≡ false → far_tag t ≡ both (eqb c 1) (ltb limit o) → Heard c o m (Some (Some t))
 
 other : (k j : ℕ) → j < k → eqb k j ≡ false
 other k j l = ne_eqb k j (λ (e : k ≡ j). omega arith)
@@ -71,7 +68,7 @@ unsaid k n x none = any (
 abbrev kindless : ℕ → Bool
 kindless k = not (among k (1 ∷ 2 ∷ 3 ∷ 4 ∷ 5 ∷ 6 ∷ 7 ∷ []))
 
-garbled-is : (i k n x : ℕ) → (judged_by i (form_of k n Garbled x)).number ≡ 16
+garbled-is : (i k n x : ℕ) → (judged_by i (form_of k n None x)).number ≡ 16
 unfolding judged_by form_of publish_of complete_of payload_of numberless_of
 garbled-is i zero n x = refl
 garbled-is i (suc zero) n x = refl
@@ -89,7 +86,7 @@ garbled-is i (suc (suc (suc (suc (suc (suc (suc (suc k)))))))) n x =
     let h : ℕ = suc (suc (suc (suc (suc (suc (suc (suc k))))))) in
     rw (other h 1 (omega arith), other h 2 (omega arith), other h 3 (omega arith), other h 4 (omega arith), other h 5 (omega arith), other h 6 (omega arith), other h 7 (omega arith)) refl
 
-nothing_is : (i k n x : ℕ) → (judged_by i (form_of k n Nothing x)).number ≡ pick (either (kindless k) (unsaid k n x true)) 16 0
+nothing_is : (i k n x : ℕ) → (judged_by i (form_of k n (Some None) x)).number ≡ pick (either (kindless k) (unsaid k n x true)) 16 0
 unfolding judged_by form_of publish_of complete_of payload_of numberless_of far_of any among
 nothing_is i zero n x = refl
 nothing_is i (suc zero) n zero = refl
@@ -111,7 +108,7 @@ nothing_is i (suc (suc (suc (suc (suc (suc (suc (suc k)))))))) n x =
     let h : ℕ = suc (suc (suc (suc (suc (suc (suc (suc k))))))) in
     rw (other h 1 (omega arith), other h 2 (omega arith), other h 3 (omega arith), other h 4 (omega arith), other h 5 (omega arith), other h 6 (omega arith), other h 7 (omega arith)) refl
 
-told : (i : ℕ) (q : Request) → (judged_by i (Asks q)).number ≡ pick (far_of q) 17 0
+told : (i : ℕ) (q : Request) → (judged_by i (Some q)).number ≡ pick (far_of q) 17 0
 unfolding judged_by
 told i q = go (far_of q)
   where
@@ -119,12 +116,12 @@ told i q = go (far_of q)
     go true = refl
     go false = refl
 
-tagged_is : (i k n x : ℕ) (t : Tag) → (judged_by i (form_of k n (Tagged t) x)).number ≡ pick (either (kindless k) (unsaid k n x false)) 16 (pick (far_tag t) 17 0)
+tagged_is : (i k n x : ℕ) (t : Tag) → (judged_by i (form_of k n (Some (Some t)) x)).number ≡ pick (either (kindless k) (unsaid k n x false)) 16 (pick (far_tag t) 17 0)
 unfolding judged_by form_of publish_of complete_of payload_of numberless_of far_of any among
 tagged_is i zero n x t = refl
 tagged_is i (suc zero) n zero t = refl
 tagged_is i (suc zero) n (suc x) t = rw (other (suc x) 0 (omega arith)) refl
-tagged_is i (suc (suc zero)) n zero t = told i (Publish n (Event t))
+tagged_is i (suc (suc zero)) n zero t = told i (Publish n (Some t))
 tagged_is i (suc (suc zero)) n (suc x) t = rw (other (suc x) 0 (omega arith)) refl
 tagged_is i (suc (suc (suc zero))) zero zero t = told i (Complete t)
 tagged_is i (suc (suc (suc zero))) zero (suc x) t = rw (other (suc x) 0 (omega arith)) refl

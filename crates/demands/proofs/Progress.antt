@@ -6,6 +6,7 @@ use mathlib.Core.Path.{◌≡◌, refl, sym, ap, subst, ◌∙◌}
 use mathlib.Core.Bool.{Bool, true, false}
 use mathlib.Core.Logic.{◌⊎◌, inl, inr, ⊎_elim}
 use lib.Dec.{ltb, eqb}
+use Rattle.std.proofs.Common.{Option, None, Some}
 use borrow.Author.Tests.{eqb-true, eq-eqb}
 use Rattle.tags.specs.declared.Tag.{Tag}
 use Rattle.tags.specs.declared.Tag.TheVariants.{Never, Finite, Forever}
@@ -14,16 +15,11 @@ use Rattle.tags.proofs.Order.{clash, trans, reflexive, antisymmetric}
 use Rattle.tags.proofs.Laws.{Small}
 use Rattle.plans.specs.Nets.{Net, Lawful, none}
 use Rattle.transit.specs.Tags.{first_of}
-use Rattle.states.specs.declared.Next.TheVariants.{Quiet, Event}
 use Rattle.states.specs.declared.Publication.{Publication}
-use Rattle.states.specs.declared.Publication.TheVariants.{Unpublished, Published}
-use Rattle.states.specs.declared.Mark.TheVariants.{At}
-use Rattle.states.specs.declared.Limit.{Limit}
-use Rattle.states.specs.declared.Limit.TheVariants.{Absent, Upto}
 use Rattle.states.specs.Sessions.{Member, or_never}
-use Rattle.states.specs.Rules.{is_set, active, least_to, awaited, earliest, over, coming, arrivals, completions, horizon}
+use Rattle.states.specs.Rules.{is_set, active, least_to, expected, awaited, earliest, over, coming, arrivals, completions, horizon}
 use Rattle.states.proofs.Laws.{Le, Lt, compare, eq-or-less, greatest-left, le_pred, delay-after, delay-none, least-all, least-each, least-met}
-use Rattle.demands.specs.Histories.{Granted, Awaits, Moves}
+use Rattle.demands.specs.Histories.{event_at, Granted, Awaits, Moves}
 use Rattle.demands.proofs.Horizons.{Settled}
 
 -- ---- among the members that pass a test, one with no zero-delay source that passes it
@@ -68,26 +64,29 @@ module _ (p : Net) (v : ℕ → Member) (j o m : ℕ) where
       go false c e z = rw e
 
 -- an earliest tag that is finite is the event's, or one in transit before it
-from : (m : Member) (o k : ℕ) → earliest m ≡ Finite o k → ((r : ℕ) × (m.publication ≡ Published r (Event (Finite o k)))) ⊎ Awaits m
+from : (m : Member) (o k : ℕ) → earliest m ≡ Finite o k → ((r : ℕ) × (m.publication ≡ event_at r (Finite o k))) ⊎ Awaits m
 unfolding earliest
 from m o k e = go m.publication refl (tag_le (awaited m.publication) (first_of m.transit)) refl
   where
-    event : (q : Publication) → awaited q ≡ Finite o k → (r : ℕ) × (q ≡ Published r (Event (Finite o k)))
-    event Unpublished z = clash (subst (λ (t : Tag). Le t Never) z refl)
-    event (Published r Quiet) z = clash (subst (λ (t : Tag). Le Forever t) z refl)
-    event (Published r (Event t)) z = (r, ap (λ (x : Tag). Published r (Event x)) z)
+    event : (q : Option Publication) → awaited q ≡ Finite o k → (r : ℕ) × (q ≡ event_at r (Finite o k))
+    event None z = clash (subst (λ (t : Tag). Le t Never) z refl)
+    event (Some q) z = (q.revision, ap (λ (e : Option Tag). Some (record { revision = q.revision; next = e })) (next q.next z))
+      where
+        next : (e : Option Tag) → expected e ≡ Finite o k → e ≡ Some (Finite o k)
+        next None z = clash (subst (λ (t : Tag). Le Forever t) z refl)
+        next (Some t) z = ap Some z
 
-    go : (q : Publication) → m.publication ≡ q → (b : Bool) → tag_le (awaited m.publication) (first_of m.transit) ≡ b → ((r : ℕ) × (m.publication ≡ Published r (Event (Finite o k)))) ⊎ Awaits m
+    go : (q : Option Publication) → m.publication ≡ q → (b : Bool) → tag_le (awaited m.publication) (first_of m.transit) ≡ b → ((r : ℕ) × (m.publication ≡ event_at r (Finite o k))) ⊎ Awaits m
     go q eq true l = inl (event m.publication (rw l at e))
     go q eq false l = inr (rw l)
 
 -- a grant that covers a finite event is there
-holds : (m : Member) (q o k : ℕ) → m.publication ≡ Published q (Event (Finite o k)) → m.revision ≡ At q → Le (Finite o k) (or_never m.granted) → Granted m
+holds : (m : Member) (q o k : ℕ) → m.publication ≡ event_at q (Finite o k) → m.revision ≡ Some q → Le (Finite o k) (or_never m.granted) → Granted m
 holds m q o k e r h = go m.granted refl
   where
-    go : (l : Limit) → m.granted ≡ l → Granted m
-    go Absent z = clash (rw z at h)
-    go (Upto t) z = (q, Finite o k, t, e, r, z, rw z at h)
+    go : (l : Option Tag) → m.granted ≡ l → Granted m
+    go None z = clash (rw z at h)
+    go (Some t) z = (q, Finite o k, t, e, r, z, rw z at h)
 
 pub moves : (p : Net) → Lawful p → (v : ℕ → Member) → ((j : ℕ) → j < p.count → Settled p v j) → ((j : ℕ) → j < p.count → Small (earliest (v j))) → ((j : ℕ) → is_set (v j).idle ≡ false → active (v j) ≡ true) → Moves p v
 moves p law v settled small awake published busy o m least = (i, r.1.0, at_least, ⊎_elim (λ q. inl (granted q)) (λ a. inr a) (from (v i) o m at_least))
@@ -116,6 +115,6 @@ moves p law v settled small awake published busy o m least = (i, r.1.0, at_least
     reached : Le (Finite o m) (horizon p v i)
     reached = reaches p v i o m (subst Small some.2 (small some.0 some.1)) pass
 
-    granted : (q : ℕ) × ((v i).publication ≡ Published q (Event (Finite o m))) → Granted (v i)
+    granted : (q : ℕ) × ((v i).publication ≡ event_at q (Finite o m)) → Granted (v i)
     granted (q, e) = let s = settled i r.1.0 q (Finite o m) e (awake i (busy i r.1.0)) reached in
         holds (v i) q o m e s.0 (trans (Finite o m) (horizon p v i) (or_never (v i).granted) reached s.1)

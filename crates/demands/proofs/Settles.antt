@@ -4,17 +4,15 @@ use Prim.Native.Nat.{ℕ, zero, suc, ◌<◌, ◌≤◌}
 use native.Mathlib.Omega.{arith}
 use mathlib.Core.Path.{◌≡◌, refl, sym, ap, ◌∙◌}
 use mathlib.Core.Bool.{Bool, true, false}
+use Rattle.std.proofs.Common.{Option, None, Some}
+use Rattle.states.specs.declared.Publication.{Publication}
+use Rattle.demands.specs.Histories.{event_at}
 use mathlib.Core.Logic.{⊎_elim}
 use borrow.Author.Tests.{eqb-true}
 use Rattle.tags.specs.declared.Tag.{Tag}
 use Rattle.tags.specs.Tags.{tag_le}
 use Rattle.tags.proofs.Order.{clash, reflexive}
 use Rattle.plans.specs.Nets.{Net, downstream}
-use Rattle.states.specs.declared.Next.TheVariants.{Event}
-use Rattle.states.specs.declared.Publication.{Publication}
-use Rattle.states.specs.declared.Publication.TheVariants.{Published}
-use Rattle.states.specs.declared.Mark.{Mark}
-use Rattle.states.specs.declared.Mark.TheVariants.{Unset, At}
 use Rattle.states.specs.Sessions.{Member, Session, or_never, view, put, with_grant}
 use Rattle.states.specs.Rules.{mark_is, active, earliest, horizon, due, revision_of}
 use Rattle.states.specs.Steps.{Out, Pass, each, visit, granting, grant_below, grants, at_rest, every, idling, idles, bounding, bounds}
@@ -24,15 +22,15 @@ use Rattle.demands.proofs.Horizons.{Settled, Inputs, still-settled, horizon-gran
 use Rattle.demands.proofs.Changes.{SmallMember, earliest-small, Sane, Steady, put-sane, put_inputs, Light, put_light, same-own}
 
 -- ---- what a test that failed says: the event is not reached, or the grant stands
-marked : (q : Mark) (r : ℕ) → mark_is q r ≡ true → q ≡ At r
-marked Unset r e = clash e
-marked (At k) r e = ap At (eqb-true k r e)
+marked : (q : Option ℕ) (r : ℕ) → mark_is q r ≡ true → q ≡ Some r
+marked None r e = clash e
+marked (Some k) r e = ap Some (eqb-true k r e)
 
-undue : (m : Member) (h : Tag) (r : ℕ) (e : Tag) → due (Published r (Event e)) m h ≡ false → active m ≡ true → Le e h → (m.revision ≡ At r) × Le h (or_never m.granted)
+undue : (m : Member) (h : Tag) (r : ℕ) (e : Tag) → due (event_at r e) m h ≡ false → active m ≡ true → Le e h → (m.revision ≡ Some r) × Le h (or_never m.granted)
 unfolding due
 undue m h r e d a l = go (mark_is m.revision r) (tag_le h (or_never m.granted)) refl refl
   where
-    go : (b c : Bool) → mark_is m.revision r ≡ b → tag_le h (or_never m.granted) ≡ c → (m.revision ≡ At r) × Le h (or_never m.granted)
+    go : (b c : Bool) → mark_is m.revision r ≡ b → tag_le h (or_never m.granted) ≡ c → (m.revision ≡ Some r) × Le h (or_never m.granted)
     go true true x y = (marked m.revision r x, y)
     go true false x y = clash (sym (rw (a, l, x, y) at d))
     go false c x y = clash (sym (rw (a, l, x) at d))
@@ -57,7 +55,7 @@ module _ (p : Net) (o : Out) (h : Sane p o.session) (j : ℕ) (l : j < p.count) 
   grant-sane = picked (λ (x : Out). Sane p x.session) (due (view s j).publication (view s j) (horizon p (view s) j)) _ o (put-sane p s h j new (h.small j)) h
 
   settles-new : Settled p (view (put s j new)) j
-  settles-new r e q a reach = rw at_j (ap (λ (x : Publication). At (revision_of x)) (rw at_j at q), horizon-granted p (view s) (view (put s j new)) j ins (ap (λ (m : Member). or_never m.granted) at_j))
+  settles-new r e q a reach = rw at_j (ap (λ (x : Option Publication). Some (revision_of x)) (rw at_j at q), horizon-granted p (view s) (view (put s j new)) j ins (ap (λ (m : Member). or_never m.granted) at_j))
     where
       at_j : view (put s j new) j ≡ new
       at_j = put_same s j new (omega (arith, h.long))

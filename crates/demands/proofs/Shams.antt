@@ -4,6 +4,7 @@ use Prim.Native.Nat.{ℕ, zero, suc, ◌<◌}
 use native.Mathlib.Omega.{arith}
 use mathlib.Core.Path.{◌≡◌, refl, sym, ap, subst, ◌∙◌}
 use mathlib.Core.Bool.{true, false}
+use Rattle.std.proofs.Common.{Option, None, Some}
 use mathlib.Core.List.{List, [], ◌∷◌}
 use lib.ListN.{get_or-replicate}
 use Rattle.tags.specs.declared.Tag.{Tag}
@@ -11,16 +12,13 @@ use Rattle.tags.specs.declared.Tag.TheVariants.{Finite, Forever}
 use Rattle.tags.proofs.Order.{clash}
 use Rattle.plans.specs.Nets.{Net, downstream}
 use Rattle.transit.specs.Tags.{insert, after, holds}
-use Rattle.states.specs.declared.Next.TheVariants.{Quiet, Event}
-use Rattle.states.specs.declared.Publication.TheVariants.{Unpublished, Published}
-use Rattle.states.specs.declared.Mark.TheVariants.{Unset, At}
 use Rattle.states.specs.declared.Request.TheVariants.{Hello, Publish, Complete, Payload}
 use Rattle.states.specs.declared.Delivery.{Delivery}
 use Rattle.states.specs.declared.Delivery.TheVariants.{Started, Grant, Failed}
 use Rattle.states.specs.Sessions.{Session, blank, fresh, view}
 use Rattle.states.specs.Rules.{least_to, earliest, over, past, arrivals, completions, horizon, due, bound_of, useful}
 use Rattle.states.specs.Steps.{Out, each, to_all, every, any, phase_of, lifecycle, bad_publication, bad_completion, bad_payload, bad_target, payload_refusal, kind_refusal, refusal_of, publishing, effect, visit, grant_below, grants, at_rest, idles, bounds, welcome, accepted, answered, step}
-use Rattle.demands.specs.Histories.{Answered}
+use Rattle.demands.specs.Histories.{event_at, Answered}
 use Rattle.delays.specs.Graph.{plus, next, via, cost, direct}
 use Rattle.demands.specs.Nets.{routes_from}
 use Rattle.demands.specs.Samples.{places, plan_p, P}
@@ -42,7 +40,7 @@ refusing-falls n h = some-failed (Failed 0 n 0) (Failed 1 n 0 ∷ []) (to-P ∙ 
     to-P = unfold P plan_p refusing to_all in refl
 
 -- ---- and meets demand 3 emptily
-still : (n : ℕ) (p : Net) (s : Session) → ReachedBy (refusing n) p s → (j : ℕ) → j < p.count → (view s j).publication ≡ Unpublished
+still : (n : ℕ) (p : Net) (s : Session) → ReachedBy (refusing n) p s → (j : ℕ) → j < p.count → (view s j).publication ≡ None
 unfolding refusing
 still n p _ (opened identity) j l = rw (get_or-replicate p.count j blank blank l)
 still n p _ (asked {s = s} r i q a) j l = still n p s r j l
@@ -53,10 +51,10 @@ refusing-meets n p law s r = (
   λ published busy o m least. absurd (nobody p.count refl published o m least),
 )
   where
-    unpublished : {r : ℕ} {e : Tag} → Unpublished ≡ Published r (Event e) → false ≡ true
+    unpublished : {r : ℕ} {e : Tag} → None ≡ event_at r e → false ≡ true
     unpublished q = cc
 
-    nobody : (c : ℕ) → p.count ≡ c → ((k : ℕ) → k < p.count → (view s k).publication ≡ Unpublished → ⊥) → (o m : ℕ) → least_to p.count (λ k. earliest (view s k)) ≡ Finite o m → ⊥
+    nobody : (c : ℕ) → p.count ≡ c → ((k : ℕ) → k < p.count → (view s k).publication ≡ None → ⊥) → (o m : ℕ) → least_to p.count (λ k. earliest (view s k)) ≡ Finite o m → ⊥
     nobody zero e f o m least = nothing (subst (λ (c : ℕ). least_to c (λ k. earliest (view s k)) ≡ Finite o m) e least)
       where
         nothing : least_to 0 (λ k. earliest (view s k)) ≡ Finite o m → ⊥
@@ -88,26 +86,26 @@ abbrev sofar : Build → Session
 sofar f =
     let s1 = (f P (fresh 2 5) 0 (Hello 5)).session in
     let s2 = (f P s1 1 (Hello 5)).session in
-    let s3 = (f P s2 0 (Publish 1 (Event (Finite 0 0)))).session in
-    let s4 = (f P s3 1 (Publish 1 (Event (Finite 10 0)))).session in
+    let s3 = (f P s2 0 (Publish 1 (Some (Finite 0 0)))).session in
+    let s4 = (f P s3 1 (Publish 1 (Some (Finite 10 0)))).session in
     let s5 = (f P s4 0 (Payload 0 (Finite 10 0) 77)).session in
     (f P s5 0 (Complete (Finite 0 0))).session
 
 -- demand 2 asks for a grant to member 1 next
-grant-next : (step P (sofar step) 0 (Publish 2 Quiet)).sent ≡ Grant 1 1 Forever ∷ []
+grant-next : (step P (sofar step) 0 (Publish 2 None)).sent ≡ Grant 1 1 Forever ∷ []
 unfolding P plan_p places routes_from plus next via cost direct downstream least_to earliest over past arrivals completions horizon due bound_of useful each to_all every any phase_of lifecycle bad_publication bad_completion bad_payload bad_target holds payload_refusal kind_refusal refusal_of insert after publishing effect visit grant_below grants at_rest idles bounds welcome accepted answered step
 grant-next = refl
 
-no-grant : (grants_once P (sofar step) 0 (Publish 2 Quiet)).sent ≡ []
+no-grant : (grants_once P (sofar step) 0 (Publish 2 None)).sent ≡ []
 unfolding grants_once P plan_p places routes_from plus next via cost direct downstream least_to earliest over past arrivals completions horizon due bound_of useful each to_all every any phase_of lifecycle bad_publication bad_completion bad_payload bad_target holds payload_refusal kind_refusal refusal_of insert after publishing effect visit grant_below grants at_rest idles bounds welcome accepted answered step
 no-grant = refl
 
 pub once-falls-to_2 : Second grants_once → ⊥
-once-falls-to_2 h = some-failed (Grant 1 1 Forever) [] (sym grant-next ∙ (sym (ap (λ (o : Out). o.sent) (h P (sofar step) 0 (Publish 2 Quiet))) ∙ no-grant))
+once-falls-to_2 h = some-failed (Grant 1 1 Forever) [] (sym grant-next ∙ (sym (ap (λ (o : Out). o.sent) (h P (sofar step) 0 (Publish 2 None))) ∙ no-grant))
 
 -- demand 3 asks that member 1 holds one
 abbrev stuck : Session
-stuck = (grants_once P (sofar grants_once) 0 (Publish 2 Quiet)).session
+stuck = (grants_once P (sofar grants_once) 0 (Publish 2 None)).session
 
 stuck-reached : ReachedBy grants_once P stuck
 unfolding P plan_p
@@ -115,13 +113,13 @@ stuck-reached =
     asked (asked (asked (asked (asked (asked (asked (opened 5)
     0 (Hello 5) tt)
     1 (Hello 5) tt)
-    0 (Publish 1 (Event (Finite 0 0))) (omega arith))
-    1 (Publish 1 (Event (Finite 10 0))) (omega arith))
+    0 (Publish 1 (Some (Finite 0 0))) (omega arith))
+    1 (Publish 1 (Some (Finite 10 0))) (omega arith))
     0 (Payload 0 (Finite 10 0) 77) (omega arith))
     0 (Complete (Finite 0 0)) (omega arith))
-    0 (Publish 2 Quiet) tt
+    0 (Publish 2 None) tt
 
-without : Answered P (view stuck) 1 → Unset ≡ At 1
+without : Answered P (view stuck) 1 → ◌≡◌ {A = Option ℕ} None (Some 1)
 unfolding grants_once P plan_p places routes_from plus next via cost direct downstream least_to earliest over past arrivals completions horizon due bound_of useful each to_all every any phase_of lifecycle bad_publication bad_completion bad_payload bad_target holds payload_refusal kind_refusal refusal_of insert after publishing effect visit grant_below grants at_rest idles bounds welcome accepted answered step
 without h = (h 1 (Finite 10 0) refl refl refl).0
 

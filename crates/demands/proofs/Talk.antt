@@ -4,6 +4,7 @@ use Prim.Native.Nat.{ℕ, ◌<◌}
 use native.Mathlib.Omega.{arith}
 use mathlib.Core.Path.{◌≡◌, refl}
 use mathlib.Core.Bool.{Bool, true, false}
+use Rattle.std.proofs.Common.{Option, None, Some}
 use mathlib.Core.List.{List, [], ◌∷◌}
 use lib.Dec.{leb}
 use lib.ListN.{get_or, drop, replicate}
@@ -21,7 +22,6 @@ use Rattle.image.specs.Image.{laid, image_of}
 use Rattle.transit.specs.Tags as tags
 use Rattle.transit.specs.Tags.{insert, after, holds}
 use Rattle.transit.specs.Words as words
-use Rattle.states.specs.declared.Mark.TheVariants.{Unset, At}
 use Rattle.states.specs.Records.{blank_record}
 use Rattle.states.specs.Sessions.{view}
 use Rattle.states.specs.Rules.{least_to, earliest, over, past, arrivals, completions, horizon, due, bound_of, useful}
@@ -36,9 +36,7 @@ use Rattle.requests.specs.Asking as asking
 use Rattle.requests.specs.Asking.{asked_by, judged_by, form_of, publish_of, complete_of, payload_of, numberless_of, spoken_by}
 use Rattle.requests.specs.Sending.{words_of}
 use Rattle.members.specs.Codes.{session_of, state_of, slab_of, lays_of, members_from}
-use Rattle.members.specs.Formed as whole
 use Rattle.members.specs.Formed.{formed, formed_at, formed_record, limited, orderly, is_blank, bare, unmarked, blank_at}
-use Rattle.passes.specs.Pages.{stopped_at}
 use Rattle.passes.specs.Ties.{all_words}
 use Rattle.rti.specs.Entries.{Outcome, open_refusal, abort_refusal, request_refusal, shown, judged, opened as opened_by, handled, finished_state}
 use Rattle.demands.specs.Histories.{Answered}
@@ -107,10 +105,10 @@ pub record Computed : Type 0 where
   pub missing : (by once (sofar handled) seventh).answer.count ≡ 0
   -- what demand 3 would ask of one: a grant to member 1
   pub inside : 1 < rows.members image_p
-  pub grantless : Answered (net_in image_p) (view (session_of stuck.state stuck.slab)) 1 → Unset ≡ At 1
+  pub grantless : Answered (net_in image_p) (view (session_of stuck.state stuck.slab)) 1 → ◌≡◌ {A = Option ℕ} None (Some 1)
 
 pub computed : Computed
-unfolding host_p talk after-talk requests seven replies finished_state stopped_at sofar after-all sixth carrying refusing grants_once under opened_by handled request_refusal abort_refusal open_refusal shown judged refusal_in longer is_image taken same ascending every plan_in padded listed image_p number number_at image_of image.member_table image.edge_table image.direct_table image.transitive_table image.downstream_table image.header_of image.direct_count image.transitive_count image.downstream_count image.target_row image.source_row image.edge_row image.member_row image.up_to image.first_of image.gathered laid bytes direct_sources transitive_sources downstream reached passing sourced direct cost via next plus first mask_of first_loop linked_by component_of cycle_of far_target far_source far_of or_else delays·judged refusal_of rows.field net_in direct_in minimum_in routes_from delay_of net.downstream least_to earliest over past arrivals completions horizon due bound_of useful each to_all step.every any phase_of lifecycle bad_publication bad_completion bad_payload bad_target holds payload_refusal kind_refusal step.refusal_of insert after publishing effect visit grant_below grants at_rest idles bounds welcome accepted answered step.step asked_by judged_by form_of publish_of complete_of payload_of numberless_of spoken_by asking.far_of words_of all_words replaced part session_of state_of slab_of lays_of members_from formed formed_at formed_record limited orderly is_blank bare unmarked blank_at whole.every words.lay words.tags_of words.blank words.formed_stretch tags.ascending
+unfolding host_p talk after-talk requests seven replies finished_state sofar after-all sixth carrying refusing grants_once under opened_by handled request_refusal abort_refusal open_refusal shown judged refusal_in longer is_image taken same ascending every plan_in padded listed image_p number number_at image_of image.member_table image.edge_table image.direct_table image.transitive_table image.downstream_table image.header_of image.direct_count image.transitive_count image.downstream_count image.target_row image.source_row image.edge_row image.member_row image.up_to image.first_of image.gathered laid bytes direct_sources transitive_sources downstream reached passing sourced direct cost via next plus first mask_of first_loop linked_by component_of cycle_of far_target far_source far_of or_else delays·judged refusal_of rows.field net_in direct_in minimum_in routes_from delay_of net.downstream least_to earliest over past arrivals completions horizon due bound_of useful each to_all step.every any phase_of lifecycle bad_publication bad_completion bad_payload bad_target holds payload_refusal kind_refusal step.refusal_of insert after publishing effect visit grant_below grants at_rest idles bounds welcome accepted answered step.step asked_by judged_by form_of publish_of complete_of payload_of numberless_of spoken_by asking.far_of words_of all_words replaced part session_of state_of slab_of lays_of members_from formed formed_at formed_record limited orderly is_blank bare unmarked blank_at words.lay words.tags_of words.blank words.formed_stretch tags.ascending
 computed =
     record {
       words = refl;

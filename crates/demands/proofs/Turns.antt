@@ -4,6 +4,8 @@ use Prim.Native.Nat.{ℕ, zero, suc, ◌<◌, ◌≤◌}
 use native.Mathlib.Omega.{arith}
 use mathlib.Core.Path.{◌≡◌, refl, sym, ap, ap₂, subst, ◌∙◌}
 use mathlib.Core.Bool.{Bool, true, false}
+use Rattle.std.proofs.Common.{Option}
+use Rattle.states.specs.declared.Publication.{Publication}
 use mathlib.Core.Logic.{⊎_elim}
 use mathlib.Core.List.{List, [], ◌∷◌, ◌++◌, append_assoc}
 use lib.Dec.{ltb}
@@ -16,8 +18,6 @@ use Rattle.tags.specs.Tags.{least_of, less_of}
 use Rattle.plans.specs.Nets.{Net, downstream}
 use Rattle.transit.specs.Tags.{first_of}
 use Rattle.states.specs.declared.Delivery.TheVariants.{Grant, Idle, Suppress}
-use Rattle.states.specs.declared.Publication.{Publication}
-use Rattle.states.specs.declared.Limit.{Limit}
 use Rattle.states.specs.Sessions.{Member, Session, or_never, view, put, with_grant, with_bound, with_idle}
 use Rattle.states.specs.Rules.{mark_is, active, awaited, earliest, over, past, horizon, due, revision_of, bound_of, useful}
 use Rattle.states.specs.Steps.{Out, Pass, tell, each, visit, granting, idling, bounding}
@@ -40,13 +40,13 @@ near_of {m} e = rw e (near-itself m)
 
 pub earliest-near : {m m' : Member} → Near m m' → earliest m' ≡ earliest m
 unfolding earliest
-earliest-near {m} {m'} h = ap₂ (λ (x : Publication) (y : List Tag). least_of (awaited x) (first_of y)) h.publication h.transit
+earliest-near {m} {m'} h = ap₂ (λ (x : Option Publication) (y : List Tag). least_of (awaited x) (first_of y)) h.publication h.transit
 
 module _ (p : Net) (v v' : ℕ → Member) (h : (k : ℕ) → k < p.count → Near (v k) (v' k)) where
   pub horizon-near : (j : ℕ) → v' j ≡ v j → horizon p v' j ≡ horizon p v j
   horizon-near j e =
       horizon-same p v v' j (λ i l. ap (over (p.minimum i j)) (earliest-near (h i l)))
-      (λ i l. ap (λ (x : Limit). past (p.direct i j) (or_never x)) (h i l).completed) e
+      (λ i l. ap (λ (x : Option Tag). past (p.direct i j) (or_never x)) (h i l).completed) e
 
   pub bound-near : (j : ℕ) → bound_of p v' j ≡ bound_of p v j
   unfolding bound_of

@@ -4,6 +4,7 @@ use Prim.Native.Nat.{ℕ, zero, suc, ◌+◌, ◌*◌, ◌-◌, ◌<◌, ◌≤�
 use native.Mathlib.Omega.{arith}
 use mathlib.Core.Path.{◌≡◌, refl, sym, ap, ap₂, subst, ◌∙◌}
 use mathlib.Core.Bool.{Bool, true, false}
+use Rattle.std.proofs.Common.{Option, None, Some}
 use mathlib.Core.List.{List, [], ◌∷◌, ◌++◌, map, append_assoc}
 use lib.ListN.{length, get_or, take, drop, replicate, length-append, length-map, get_or-append, get_or-map}
 use lib.Seq.{take_at, drop_at, drop-append-add}
@@ -18,11 +19,7 @@ use Rattle.transit.specs.Tags.{limit, within, Finites, Within}
 use Rattle.transit.specs.Words.{slots, lay, stretch}
 use Rattle.transit.proofs.Lists.{within-finite}
 use Rattle.transit.proofs.Words.{length-lay, tags-lay, laid-formed}
-use Rattle.states.specs.declared.Next.TheVariants.{Quiet, Event}
 use Rattle.states.specs.declared.Publication.{Publication}
-use Rattle.states.specs.declared.Publication.TheVariants.{Unpublished, Published}
-use Rattle.states.specs.declared.Limit.{Limit}
-use Rattle.states.specs.declared.Limit.TheVariants.{Absent, Upto}
 use Rattle.states.specs.declared.MemberState.{MemberState}
 use Rattle.states.specs.declared.State.{State}
 use Rattle.states.specs.Records.{blank_record}
@@ -101,14 +98,13 @@ words-within : (ts : List Tag) → Words ts → Within ts
 words-within [] w = tt
 words-within (t ∷ ts) w = (word-within t w.0, words-within ts w.1)
 
-event-within : (q : Publication) → WordNext q → event_within q ≡ true
-event-within Unpublished w = refl
-event-within (Published r Quiet) w = refl
-event-within (Published r (Event t)) w = word-within t w
+limit-within : (l : Option Tag) → WordLimit l → limit_within l ≡ true
+limit-within None w = refl
+limit-within (Some t) w = word-within t w
 
-limit-within : (l : Limit) → WordLimit l → limit_within l ≡ true
-limit-within Absent w = refl
-limit-within (Upto t) w = word-within t w
+event-within : (q : Option Publication) → WordNext q → event_within q ≡ true
+event-within None w = refl
+event-within (Some q) w = limit-within q.next w
 
 stops-idle : (a b : Bool) → (a ≡ true → b ≡ true) → either (not a) b ≡ true
 stops-idle true b h = h refl

@@ -1,11 +1,10 @@
 -- Demand 1 inside a session: the refusals 20 to 32 as one list, and what a refusal does.
 -- Assumes nothing.
-use Rattle.std.specs.Prelude.{ℕ, ◌<◌, ◌≤◌, ◌≡◌, Bool, true, false, List, [], ◌∷◌, leb, eqb, length}
+use Rattle.std.specs.Prelude.{ℕ, ◌<◌, ◌≤◌, ◌≡◌, Bool, true, false, Option, List, [], ◌∷◌, leb, eqb, length}
 use Rattle.basis.specs.Choice.{not, both, either}
 use Rattle.tags.specs.declared.Tag.{Tag}
 use Rattle.plans.specs.Nets.{Net}
 use Rattle.transit.specs.Tags.{full}
-use Rattle.states.specs.declared.Next.{Next}
 use Rattle.states.specs.declared.Request.{Request}
 use Rattle.states.specs.declared.Request.TheVariants.{Hello, Publish, Complete, Payload, ConfirmIdle, Stop, Abort}
 use Rattle.states.specs.declared.Delivery.TheVariants.{Failed}
@@ -27,7 +26,7 @@ of_hello f (Abort c) = false
 abbrev pub is_hello : Request → Bool
 is_hello q = of_hello (λ d. true) q
 
-abbrev pub of_publish : (ℕ → Next → Bool) → Request → Bool
+abbrev pub of_publish : (ℕ → Option Tag → Bool) → Request → Bool
 of_publish f (Hello d) = false
 of_publish f (Publish r e) = f r e
 of_publish f (Complete t) = false

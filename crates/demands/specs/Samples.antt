@@ -1,11 +1,10 @@
 -- Whole case on P: members 100, 200 with capacity 1, edge 7 from 100 to 200, delay 10.
 -- Assumes nothing.
-use Rattle.std.specs.Prelude.{ℕ, ◌-◌, List, [], ◌∷◌, ◌++◌, length, replicate}
+use Rattle.std.specs.Prelude.{ℕ, ◌-◌, None, Some, List, [], ◌∷◌, ◌++◌, length, replicate}
 use Rattle.tags.specs.declared.Tag.TheVariants.{Finite, Forever}
 use Rattle.tags.specs.Tags.{top}
 use Rattle.plans.specs.declared.Plan.{Plan}
 use Rattle.plans.specs.Nets.{Net}
-use Rattle.states.specs.declared.Next.TheVariants.{Quiet, Event}
 use Rattle.states.specs.declared.Request.{Request}
 use Rattle.states.specs.declared.Request.TheVariants.{Hello, Publish, Complete, Payload, ConfirmIdle, Stop}
 use Rattle.states.specs.declared.Delivery.{Delivery}
@@ -57,13 +56,13 @@ unfoldable pub case : List Call
 case =
     by 0 (Hello 5)
     ∷ by 1 (Hello 5)
-    ∷ by 0 (Publish 1 (Event (Finite 0 0)))
-    ∷ by 1 (Publish 1 (Event (Finite 10 0)))
+    ∷ by 0 (Publish 1 (Some (Finite 0 0)))
+    ∷ by 1 (Publish 1 (Some (Finite 10 0)))
     ∷ by 0 (Payload 0 (Finite 10 0) 77)
     ∷ by 0 (Complete (Finite 0 0))
-    ∷ by 0 (Publish 2 Quiet)
+    ∷ by 0 (Publish 2 None)
     ∷ by 1 (Complete (Finite 10 0))
-    ∷ by 1 (Publish 2 Quiet)
+    ∷ by 1 (Publish 2 None)
     ∷ by 0 (ConfirmIdle 2)
     ∷ by 1 (ConfirmIdle 2)
     ∷ by 0 Stop

@@ -1,10 +1,9 @@
 -- Builds of a session's step that are not right, and what the demands ask of a build.
 -- Assumes nothing.
-use Rattle.std.specs.Prelude.{ℕ, ◌<◌, ◌≡◌, Bool, true, false, eqb}
+use Rattle.std.specs.Prelude.{ℕ, ◌<◌, ◌≡◌, Bool, true, false, Option, None, Some, eqb}
 use Rattle.basis.specs.Choice.{pick, not, both}
 use Rattle.plans.specs.Nets.{Net, Lawful}
 use Rattle.states.specs.declared.Publication.{Publication}
-use Rattle.states.specs.declared.Publication.TheVariants.{Unpublished, Published}
 use Rattle.states.specs.declared.Request.{Request}
 use Rattle.states.specs.declared.Delivery.TheVariants.{Failed}
 use Rattle.states.specs.Sessions.{Session, fresh, view, with_cause}
@@ -43,9 +42,9 @@ fixed o p s i q = o
 abbrev pub Leaves : Build → Type 0
 Leaves f = (p : Net) (s : Session) (i : ℕ) (q : Request) → (f p s i q).session ≡ s
 
-abbrev pub is_unpublished : Publication → Bool
-is_unpublished Unpublished = true
-is_unpublished (Published r e) = false
+abbrev pub is_unpublished : Option Publication → Bool
+is_unpublished None = true
+is_unpublished (Some p) = false
 
 -- one that grants on first publication only
 unfoldable pub grants_once : Build

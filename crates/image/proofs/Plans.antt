@@ -14,7 +14,7 @@ use Rattle.delays.specs.Cells.{Held, kind_of, word_of}
 use Rattle.delays.specs.Lists.{sourced, passing, reached, direct_sources, transitive_sources, downstream}
 use Rattle.image.specs.Image.{laid, gathered, first_of, source_row, target_row, member_row, edge_row, member_table, edge_table, direct_table, transitive_table, downstream_table, direct_count, transitive_count, downstream_count, end_at, total_of, image_of}
 use Rattle.image.specs.Writing.{Room, held, onward, summed, counted, source_count, target_count, source_bytes, sources_bytes, source_table, target_bytes, targets_bytes, target_table, member_bytes, member_in, members_bytes, edge_bytes, edges_bytes, front_bytes, back_bytes}
-use Rattle.image.proofs.Counts.{sources-few, targets-few}
+use Rattle.image.proofs.Counts.{sources-few, targets-few, sources-all, targets-all}
 use Rattle.image.proofs.Sizes.{length-image}
 use Rattle.image.proofs.Tables.{laid_one, gathered-same, length-gathered, laid-gathered, laid-up_to}
 
@@ -169,6 +169,21 @@ pub record Counted (p : Plan) (dk dv mk mv : List ℕ) (d t w : ℕ) : Type 0 wh
   pub directs : d ≡ summed (source_count dk p.members) p.members
   pub transitives : t ≡ summed (source_count mk p.members) p.members
   pub downstreams : w ≡ summed (target_count mk p.members) p.members
+
+pub counted_by : (p : Plan) (dk dv mk mv : List ℕ) (d t w : ℕ) → p.members ≤ 32 → Held dk dv (direct_of p) → Held mk mv (minimum_of p)
+    → d ≡ summed (λ (i : ℕ). counted (λ (s : ℕ). held dk s i) p.members) p.members
+    → t ≡ summed (λ (i : ℕ). counted (λ (s : ℕ). held mk s i) p.members) p.members
+    → w ≡ summed (λ (i : ℕ). counted (onward mk i) p.members) p.members
+    → Counted p dk dv mk mv d t w
+counted_by p dk dv mk mv d t w few direct minimum e f g =
+    record {
+      few = few;
+      direct = direct;
+      minimum = minimum;
+      directs = e ∙ sources-all dk p.members;
+      transitives = f ∙ sources-all mk p.members;
+      downstreams = g ∙ targets-all mk p.members;
+    }
 
 module _ {p : Plan} {dk dv mk mv : List ℕ} {d t w : ℕ} (c : Counted p dk dv mk mv d t w) where
   direct-rows : d ≡ direct_count p

@@ -1,16 +1,15 @@
 -- The rows: how long each is, and which stand where.
 -- Assumes nothing.
 use mathlib.Core.Path.{◌≡◌}
-use mathlib.Core.Bool.{true, false}
 use mathlib.Core.List.{List, [], ◌∷◌, ◌++◌}
-use Prim.Native.Nat.{ℕ, ◌+◌, ◌*◌}
+use Prim.Native.Nat.{ℕ, ◌*◌}
 use native.Mathlib.Omega.{arith}
 use lib.ListN.{length, get_or, length-append}
 use Rattle.basis.specs.Numbers.{bytes}
 use Rattle.basis.proofs.Numbers.{length-bytes}
 use Rattle.delays.specs.Lists.{Source}
 use Rattle.image.specs.Image.{words, source_row, target_row, header_of}
-use Rattle.image.specs.Writing.{held, onward, source_bytes, target_bytes, member_bytes, member_in, edge_bytes, summed, source_count, target_count}
+use Rattle.image.specs.Writing.{member_bytes, member_in, edge_bytes, summed, source_count, target_count}
 use Rattle.image.proofs.Tables.{length-laid}
 
 pub length-words : (ws : List ℕ) → length (words ws) ≡ 4 * length ws
@@ -47,22 +46,3 @@ unfolding edge_bytes
 length-edge id source target delay =
     let ws : List ℕ = source ∷ target ∷ [] in
     omega (arith, length-append (bytes 8 id) (words ws ++ bytes 8 delay), length-append (words ws) (bytes 8 delay), length-bytes 8 id, length-words ws, length-bytes 8 delay)
-
--- a row where there is one, and nothing where there is none
-module _ (ks vs : List ℕ) (s t : ℕ) where
-  pub source-held : held ks s t ≡ true → source_bytes ks vs t s ≡ source_row (record { source = s; delay = get_or vs (s * 32 + t) 0 })
-  unfolding source_bytes
-  source-held e = rw e
-
-  pub source-none : held ks s t ≡ false → source_bytes ks vs t s ≡ []
-  unfolding source_bytes
-  source-none e = rw e
-
-module _ (ks : List ℕ) (s t : ℕ) where
-  pub target-held : onward ks s t ≡ true → target_bytes ks s t ≡ bytes 4 t
-  unfolding target_bytes target_row
-  target-held e = rw e
-
-  pub target_none : onward ks s t ≡ false → target_bytes ks s t ≡ []
-  unfolding target_bytes
-  target_none e = rw e

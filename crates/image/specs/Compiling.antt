@@ -1,19 +1,29 @@
 -- What compiling answers, and what it leaves in the output.
 -- Assumes nothing.
-use Rattle.std.specs.Prelude.{◌≡◌, List, ◌++◌, ℕ, ltb, eqb, drop}
+use Rattle.std.specs.Prelude.{◌≡◌, List, ◌++◌, ℕ, ltb, eqb, drop, Result, Ok, Err}
 use Rattle.basis.specs.Choice.{pick}
 use Rattle.plans.specs.declared.Plan.{Plan}
 use Rattle.plans.specs.declared.Refusal.{Refusal}
+use Rattle.plans.specs.Numbers.{Reason, no_reason, reason_of}
 use Rattle.plans.specs.Reading.{reading_of}
 use Rattle.delays.specs.Refusals.{accepted, refusal_of}
-use Rattle.image.specs.declared.Compiled.{Compiled}
 use Rattle.image.specs.Image.{image_of, total_of}
 
+-- the outcome of compiling: why not, or the bytes written
+pub record Compiled : Type 0 where
+  pub refusal : Reason
+  pub total : ℕ
+
+-- a refusal and no bytes, or none and the total
+abbrev pub compiled : Result ℕ Refusal → Compiled
+compiled (Ok total) = record { refusal = no_reason; total = total }
+compiled (Err r) = record { refusal = reason_of r; total = 0 }
+
 -- "10: output shorter than the compiled total"
-abbrev pub too_short : Refusal
+abbrev pub too_short : Reason
 too_short = record { number = 10; mask = 0; first = 0; second = 0 }
 
-abbrev pub refused : Refusal → Compiled
+abbrev pub refused : Reason → Compiled
 refused r = record { refusal = r; total = 0 }
 
 abbrev pub written : ℕ → Compiled

@@ -41,6 +41,10 @@ source_count ks n t = counted (λ (s : ℕ). held ks s t) n
 unfoldable pub target_count : List ℕ → ℕ → ℕ → ℕ
 target_count ks n s = counted (onward ks s) n
 
+-- the row of a position that is listed, and nothing of another
+abbrev pub listed_bytes : (ℕ → Bool) → (ℕ → List ℕ) → ℕ → List ℕ
+listed_bytes listed row s = pick (listed s) (row s) []
+
 -- the row of s as a source of t, where it is one; the rows of t's sources; those of n members
 unfoldable pub source_bytes : List ℕ → List ℕ → ℕ → ℕ → List ℕ
 source_bytes ks vs t s = pick (held ks s t) (source_row (record { source = s; delay = get_or vs (s * 32 + t) 0 })) []

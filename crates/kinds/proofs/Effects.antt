@@ -1,6 +1,6 @@
 -- What the kinds do to state and slab is what they do to the session.
 -- Assumes nothing.
-use Prim.Native.Nat.{ℕ, zero, suc, ◌*◌, ◌<◌, ◌≤◌}
+use Prim.Native.Nat.{ℕ, ◌*◌, ◌<◌, ◌≤◌}
 use native.Mathlib.Omega.{arith}
 use mathlib.Core.Path.{◌≡◌, refl, sym, ap, subst, ◌∙◌}
 use mathlib.Core.Bool.{Bool, true, false}
@@ -11,15 +11,12 @@ use borrow.Author.Tests.{leb-false}
 use Rattle.basis.specs.Choice.{not, either}
 use Rattle.basis.specs.Parts.{replaced}
 use Rattle.tags.specs.declared.Tag.{Tag}
-use Rattle.tags.specs.declared.Tag.TheVariants.{Never, Finite, Forever}
-use Rattle.tags.proofs.Order.{clash}
 use Rattle.plans.specs.Nets.{Net, Route}
 use Rattle.transit.specs.Tags.{insert, after, full, IsFinite}
 use Rattle.transit.specs.Words.{slots, lay}
-use Rattle.states.specs.declared.Next.{Next}
 use Rattle.states.specs.declared.Request.{Request}
 use Rattle.states.specs.declared.Request.TheVariants.{Hello, Publish, Complete, Payload, ConfirmIdle, Stop, Abort}
-use Rattle.states.specs.declared.Delivery.TheVariants.{Carried, Stopped}
+use Rattle.states.specs.declared.Delivery.TheVariants.{Carried}
 use Rattle.states.specs.declared.MemberState.{MemberState}
 use Rattle.states.specs.declared.State.{State}
 use Rattle.states.specs.Sessions.{Member, Session, view, put, with_joined, with_completed, with_transit, with_asked, with_stopped}
@@ -31,42 +28,31 @@ use Rattle.members.specs.Codes.{record_of, session_of, state_of, slab_of}
 use Rattle.members.specs.Formed.{formed}
 use Rattle.members.proofs.Codes.{session-length, state-put, slab-put, slab-kept}
 use Rattle.members.proofs.Formed.{formed-count, formed-stretch, formed-state, formed-slab}
-use Rattle.kinds.specs.Phases.{record_at, with_record}
+use Rattle.states.specs.Records.{record_at, with_record}
 use Rattle.kinds.specs.Effects.{changed_record, Completes, Carries, Routed, sent_first}
 use Rattle.kinds.proofs.Ties.{view-is, tags-count, route_is, routes-length}
 
 -- ---- what no refusal says
 zero-second : (a z : ℕ) → or_else a z ≡ 0 → z ≡ 0
-zero-second zero z h = h
-zero-second (suc a) z h = absurd (omega arith)
+zero-second a z h = grind arith
 
 zero-first : (a z : ℕ) → or_else a z ≡ 0 → a ≡ 0
-zero-first zero z h = refl
-zero-first (suc a) z h = absurd (omega arith)
+zero-first a z h = grind arith
 
 when-zero : (a : Bool) (r : ℕ) → 0 < r → when a r ≡ 0 → a ≡ false
-when-zero true r l h = absurd (omega arith)
-when-zero false r l h = refl
+when-zero a r l h = grind arith
 
 last-zero : (c : Bool) (l z : ℕ) → or_else (when c 21) (or_else l z) ≡ 0 → z ≡ 0
 last-zero c l z h = zero-second l z (zero-second (when c 21) (or_else l z) h)
 
 five : (a b c d e : Bool) → or_else (when a 26) (or_else (when b 27) (or_else (when c 28) (or_else (when d 29) (when e 30)))) ≡ 0 → (a ≡ false) × (c ≡ false) × (e ≡ false)
-five true b c d e h = absurd (omega arith)
-five false true c d e h = absurd (omega arith)
-five false false true d e h = absurd (omega arith)
-five false false false true e h = absurd (omega arith)
-five false false false false true h = absurd (omega arith)
-five false false false false false h = (refl, refl, refl)
+five a b c d e h = grind arith
 
 first_false : (a b : Bool) → either a b ≡ false → a ≡ false
-first_false true b h = h
-first_false false b h = refl
+first_false a b h = grind arith
 
 finite-of : (t : Tag) → not (finite t) ≡ false → IsFinite t
-finite-of Never h = clash (sym h)
-finite-of (Finite o m) h = tt
-finite-of Forever h = clash (sym h)
+finite-of t h = grind arith
 
 payload-finite : (m : Member) (d : ℕ) (t : Tag) → bad_payload m d t ≡ false → IsFinite t
 unfolding bad_payload any
@@ -76,37 +62,7 @@ pub abort-never : (p : Net) (x : Session) (i c : ℕ) → refusal_of p x i (Abor
 unfolding refusal_of
 abort-never p x i c h = omega arith
 
--- the kinds that leave the slab
-abbrev pub Keeps : Request → Type 0
-Keeps (Hello d) = Unit {0}
-Keeps (Publish r e) = Unit {0}
-Keeps (Complete t) = ⊥
-Keeps (Payload k t h) = ⊥
-Keeps (ConfirmIdle r) = Unit {0}
-Keeps Stop = Unit {0}
-Keeps (Abort c) = ⊥
-
 -- ---- what is sent first
-pub sent-hello : (p : Net) (x : Session) (i d : ℕ) → (effect p x i (Hello d)).sent ≡ []
-unfolding effect
-sent-hello p x i d = refl
-
-pub sent_publish : (p : Net) (x : Session) (i r : ℕ) (e : Next) → (effect p x i (Publish r e)).sent ≡ []
-unfolding effect
-sent_publish p x i r e = refl
-
-pub sent_complete : (p : Net) (x : Session) (i : ℕ) (t : Tag) → (effect p x i (Complete t)).sent ≡ []
-unfolding effect
-sent_complete p x i t = refl
-
-pub sent_confirm : (p : Net) (x : Session) (i r : ℕ) → (effect p x i (ConfirmIdle r)).sent ≡ []
-unfolding effect
-sent_confirm p x i r = refl
-
-pub sent-stop : (p : Net) (x : Session) (i : ℕ) → (effect p x i Stop).sent ≡ Stopped i ∷ []
-unfolding effect
-sent-stop p x i = refl
-
 pub sent-payload : (b : List ℕ) (x : Session) (i k : ℕ) (t : Tag) (h : ℕ) → k < edges b → (effect (net_in b) x i (Payload k t h)).sent ≡ Carried (edge_target b k) k t h ∷ []
 unfolding effect
 sent-payload b x i k t h l = ap (λ (r : Route). Carried r.target k t h ∷ []) (route_is b k l)
@@ -134,16 +90,18 @@ module _ (b : List ℕ) (laid : Laid b) (s : State) (w : List ℕ) (fits : 64 * 
     sym (slab-kept (session_of s w) w i m ts ∙ formed-slab b laid s w fits h),
   )
 
-  pub keep-done : (i : ℕ) (q : Request) (r : State) → i < members b → Keeps q → r ≡ with_record s i (changed_record (record_at s i) q)
+  -- the kinds that leave the slab
+  pub keep-done : (i : ℕ) (q : Request) (r : State) → i < members b → refusal_of (net_in b) (session_of s w) i q ≡ 0
+      → ((t : Tag) → q ≡ Complete t → ⊥) → ((k : ℕ) (t : Tag) (p : ℕ) → q ≡ Payload k t p → ⊥) → r ≡ with_record s i (changed_record (record_at s i) q)
       → (r ≡ state_of (effect (net_in b) (session_of s w) i q).session) × (w ≡ slab_of (effect (net_in b) (session_of s w) i q).session w)
   unfolding effect publishing
-  keep-done i (Hello d) r l k e = keeps i (with_joined (view (session_of s w) i)) joined_record r l refl refl e
-  keep-done i (Publish v n) r l k e = keeps i (publishing (view (session_of s w) i) v n) (λ m. published_record m v n) r l refl refl e
-  keep-done i (Complete t) r l k e = absurd k
-  keep-done i (Payload n t p) r l k e = absurd k
-  keep-done i (ConfirmIdle v) r l k e = keeps i (with_asked (view (session_of s w) i) v) (λ m. asked_record m v) r l refl refl e
-  keep-done i Stop r l k e = keeps i (with_stopped (view (session_of s w) i)) stopped_record r l refl refl e
-  keep-done i (Abort c) r l k e = absurd k
+  keep-done i (Hello d) r l free c p e = keeps i (with_joined (view (session_of s w) i)) joined_record r l refl refl e
+  keep-done i (Publish v n) r l free c p e = keeps i (publishing (view (session_of s w) i) v n) (λ m. published_record m v n) r l refl refl e
+  keep-done i (Complete t) r l free c p e = absurd (c t refl)
+  keep-done i (Payload k t h) r l free c p e = absurd (p k t h refl)
+  keep-done i (ConfirmIdle v) r l free c p e = keeps i (with_asked (view (session_of s w) i) v) (λ m. asked_record m v) r l refl refl e
+  keep-done i Stop r l free c p e = keeps i (with_stopped (view (session_of s w) i)) stopped_record r l refl refl e
+  keep-done i (Abort c) r l free n p e = absurd (abort-never (net_in b) (session_of s w) i c free)
 
   pub complete_done : (i : ℕ) (t : Tag) (r : State) (out : List ℕ) → i < members b → Completes s w i t r out
       → (r ≡ state_of (effect (net_in b) (session_of s w) i (Complete t)).session) × (out ≡ slab_of (effect (net_in b) (session_of s w) i (Complete t)).session w)

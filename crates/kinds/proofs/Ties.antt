@@ -17,8 +17,8 @@ use Rattle.transit.specs.Words.{stretch, tags_of, blank, formed_stretch}
 use Rattle.transit.proofs.Lists.{both_true}
 use Rattle.states.specs.declared.Request.{Request}
 use Rattle.states.specs.declared.Request.TheVariants.{Hello, Publish, Complete, Payload, ConfirmIdle, Stop, Abort}
-use Rattle.states.specs.declared.MemberState.{MemberState}
 use Rattle.states.specs.declared.State.{State}
+use Rattle.states.proofs.Every.{every-same}
 use Rattle.states.specs.Sessions.{Member, or_never, view}
 use Rattle.states.specs.Rules.{is_set}
 use Rattle.states.specs.Steps.{Phase as Stage, absent, waiting, running, resting, halted, every, when, or_else, phase_of, route_at, bad_publication, bad_completion, bad_payload, bad_target, confirms, payload_refusal, kind_refusal, lifecycle}
@@ -33,9 +33,10 @@ use Rattle.members.specs.Formed.{every as allTo, limited, orderly, formed_record
 use Rattle.members.proofs.Records.{every-at}
 use Rattle.members.proofs.Codes.{view-at}
 use Rattle.members.proofs.Formed.{formed-count, formed-holds}
-use Rattle.kinds.specs.Phases.{record_at, joined_at, phase_in}
+use Rattle.states.specs.Records.{record_at, joined_at}
+use Rattle.kinds.specs.Phases.{phase_in}
 use Rattle.kinds.specs.Refusals.{target_refusal, route_refusal, payload_in, kind_in}
-use Rattle.kinds.proofs.Tests.{pick_yes, or_yes, every-same}
+use Rattle.kinds.proofs.Tests.{or_yes}
 
 -- ---- phases
 abbrev stage : Bool → Bool → Bool → Bool → Stage
@@ -43,11 +44,7 @@ stage joined all stopped idle = pick (not joined) absent (pick (not all) waiting
 
 said : (joined all stopped idle : Bool)
     → phase_said (pick (not joined) Absent (pick (not all) Waiting (pick stopped Halted (pick idle Resting Running)))) ≡ stage joined all stopped idle
-said false all stopped idle = refl
-said true false stopped idle = refl
-said true true true idle = refl
-said true true false true = refl
-said true true false false = refl
+said joined all stopped idle = grind arith
 
 -- ---- routes
 abbrev pub route_of : List ℕ → ℕ → Route
@@ -71,11 +68,7 @@ route_is b k l = let e : 0 + k ≡ k = omega arith in routes-at b 0 (edges b) k 
 
 -- ---- five refusals of a payload, one after the other
 tests : (a b c d e : Bool) → or_else (when a 26) (or_else (when b 27) (or_else (when c 28) (or_else (when d 29) (when e 30)))) ≡ pick a 26 (pick b 27 (pick c 28 (pick d 29 (pick e 30 0))))
-tests true b c d e = refl
-tests false true c d e = refl
-tests false false true d e = refl
-tests false false false true e = refl
-tests false false false false e = refl
+tests a b c d e = grind arith
 
 abbrev asked : ℕ → ℕ → Tag → ℕ → Route → Member → Member → ℕ → ℕ
 asked i k t n r source target room =
@@ -135,8 +128,7 @@ module _ (b : List ℕ) (laid : Laid b) (s : State) (w : List ℕ) (fits : 64 * 
   unknown_route : (i k : ℕ) (t : Tag) → leb (edges b) k ≡ true → payload_in b s w i k t ≡ payload_refusal (net_in b) (session_of s w) i k t
   unfolding payload_in payload_refusal net_in
   unknown_route i k t e =
-      pick_yes (leb (edges b) k) 26 (route_refusal b s w i k t) e
-      ∙ or_yes (leb (length (routes_from b 0 (edges b))) k) 26 _ (omega arith) (ap (λ (n : ℕ). leb n k) (routes-length b 0 (edges b)) ∙ e)
+      rw e (or_yes (leb (length (routes_from b 0 (edges b))) k) 26 _ (omega arith) (ap (λ (n : ℕ). leb n k) (routes-length b 0 (edges b)) ∙ e))
 
   known_route : (i k : ℕ) (t : Tag) → i < members b → k < edges b → payload_in b s w i k t ≡ payload_refusal (net_in b) (session_of s w) i k t
   unfolding payload_in route_refusal target_refusal payload_refusal net_in bad_payload bad_target
@@ -178,13 +170,3 @@ module _ (b : List ℕ) (laid : Laid b) (s : State) (w : List ℕ) (fits : 64 * 
       → r ≡ lifecycle q (phase_of (net_in b) (session_of s w) i)
   table_is i n r q p l e f g =
       g ∙ ap (λ (o : Phase). lifecycle q (phase_said o)) (f ∙ ap (λ (k : ℕ). phase_in s k i) e) ∙ ap (lifecycle q) (phase-is i l)
-
--- a payload's test by a delay that was read
-pub with-delay : (m : MemberState) (t : Tag) (d e : ℕ) (r v : Bool) → r ≡ bad_payload (plainly m) d t → d ≡ e → r ≡ v → bad_payload (plainly m) e t ≡ v
-with-delay m t d e r v p q h = ap (λ (n : ℕ). bad_payload (plainly m) n t) (sym q) ∙ sym p ∙ h
-
--- a destination's refusals by the row that was read
-pub at_target : (b : List ℕ) (s : State) (w : List ℕ) (k j room r : ℕ) (t : Tag) → r ≡ target_refusal (record_at s j) (stretch j w) room t → room ≡ capacity b j → j ≡ edge_target b k
-    → r ≡ target_refusal (record_at s (edge_target b k)) (stretch (edge_target b k) w) (capacity b (edge_target b k)) t
-at_target b s w k j room r t e f g =
-    e ∙ ap (λ (n : ℕ). target_refusal (record_at s j) (stretch j w) n t) f ∙ ap (λ (n : ℕ). target_refusal (record_at s n) (stretch n w) (capacity b n) t) g

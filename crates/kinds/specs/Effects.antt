@@ -1,10 +1,8 @@
 -- What each kind does to a record, and to the state and the slab.
 -- Assumes nothing.
-use Rattle.std.specs.Prelude.{ℕ, ◌*◌, ◌<◌, ◌≡◌, false, List, [], ◌∷◌, length}
+use Rattle.std.specs.Prelude.{ℕ, ◌*◌, ◌<◌, ◌≡◌, false, List, [], ◌∷◌, length, Option, Some, None}
 use Rattle.basis.specs.Parts.{replaced}
 use Rattle.tags.specs.declared.Tag.{Tag}
-use Rattle.transit.specs.declared.Inserted.{Inserted}
-use Rattle.transit.specs.declared.Inserted.TheVariants.{Stored, Full}
 use Rattle.transit.specs.Tags.{insert, after, full, IsFinite}
 use Rattle.transit.specs.Words.{slots, lay, stretch, Laid}
 use Rattle.states.specs.declared.Request.{Request}
@@ -13,11 +11,9 @@ use Rattle.states.specs.declared.MemberState.{MemberState}
 use Rattle.states.specs.declared.State.{State}
 use Rattle.states.specs.declared.Delivery.{Delivery}
 use Rattle.states.specs.declared.Delivery.TheVariants.{Carried, Stopped}
+use Rattle.states.specs.Records.{record_at, with_record}
 use Rattle.rows.specs.Rows.{edges, edge_target}
 use Rattle.records.specs.Records.{joined_record, published_record, completed_record, carrying_record, asked_record, stopped_record}
-use Rattle.kinds.specs.declared.First.{First}
-use Rattle.kinds.specs.declared.First.TheVariants.{Nothing, Sends}
-use Rattle.kinds.specs.Phases.{record_at, with_record}
 
 -- the record that a request leaves; Complete and Payload go by the slab
 abbrev pub changed_record : MemberState → Request → MemberState
@@ -28,11 +24,6 @@ changed_record m (Payload k t h) = m
 changed_record m (ConfirmIdle r) = asked_record m r
 changed_record m Stop = stopped_record m
 changed_record m (Abort c) = m
-
--- how many tags are held now
-abbrev pub count_of : Inserted → ℕ → ℕ
-count_of (Stored n) held = n
-count_of Full held = held
 
 -- Complete: sets completed and removes tags up to it
 pub record Completes (s : State) (w : List ℕ) (i : ℕ) (t : Tag) (r : State) (out : List ℕ) : Type 0 where
@@ -45,9 +36,9 @@ pub record Carries (s : State) (w : List ℕ) (j room : ℕ) (t : Tag) (r : Stat
       → (r ≡ with_record s j (carrying_record (record_at s j) (length (insert t ts)))) × (out ≡ replaced (64 * j) (lay slots (insert t ts)) w)
 
 -- ---- what is sent first
-abbrev pub firstly : First → List Delivery
-firstly Nothing = []
-firstly (Sends d) = d ∷ []
+abbrev pub firstly : Option Delivery → List Delivery
+firstly None = []
+firstly (Some d) = d ∷ []
 
 -- a payload's route is one of the plan's
 abbrev pub Routed : List ℕ → Request → Type 0

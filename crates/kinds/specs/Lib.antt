@@ -1,3 +1,4 @@
+pub mod Fits
 pub mod Phases
 pub mod Refusals
 pub mod Effects

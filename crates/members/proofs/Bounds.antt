@@ -1,15 +1,17 @@
 -- One pass over all transitive rows gives the bound of every member.
 -- Assumes nothing.
 use Prim.Native.Nat.{ℕ, zero, suc, ◌+◌, ◌≤◌, ◌<◌}
-use mathlib.Core.Path.{◌≡◌, refl, sym, ap, ◌∙◌}
+use mathlib.Core.Path.{◌≡◌, refl, sym, ◌∙◌}
 use mathlib.Core.Logic.{⊎_elim}
-use mathlib.Core.Bool.{Bool, true, false}
+use mathlib.Core.Bool.{Bool}
 use mathlib.Core.List.{List}
 use native.Mathlib.Omega.{arith}
 use lib.Dec.{ltb, eqb}
-use lib.ListN.{length, get_or, set, length-set, length-replicate, get_or-replicate}
+use Rattle.std.proofs.lemmas.Bool.Decides.{nat_tests}
+use Rattle.std.proofs.lemmas.Grind.{common_steps}
+use lib.ListN.{length, get_or, set, length-replicate, get_or-replicate}
 use lib.Seq.{get_or-set_same, get_or-set_other}
-use borrow.Author.Tests.{lt-ltb, eq-eqb, ne_eqb}
+use borrow.Author.Tests.{lt-ltb}
 use Rattle.basis.specs.Choice.{pick, not, both}
 use Rattle.tags.specs.declared.Tag.{Tag}
 use Rattle.tags.specs.declared.Tag.TheVariants.{Never, Forever}
@@ -34,10 +36,7 @@ module _ (name delay : ℕ → ℕ) (first : ℕ) (t : Tag) (j : ℕ) where
   pub length-rows : (c : ℕ) (bs : List Tag) → length (over_rows row first c bs) ≡ length bs
   unfolding over_rows
   length-rows zero bs = refl
-  length-rows (suc c) bs =
-      let k = first + c in
-      let xs = over_rows row first c bs in
-      length-set xs (name k) (lower (get_or xs (name k) Never) t (delay k) (eqb (name k) j)) ∙ length-rows c bs
+  length-rows (suc c) bs = grind (arith, common_steps, length-rows c bs)
 
   -- what the rows leave at place i
   abbrev at_place : ℕ → List Tag → ℕ → Tag
@@ -46,47 +45,25 @@ module _ (name delay : ℕ → ℕ) (first : ℕ) (t : Tag) (j : ℕ) where
   pub rows-lower : (c n i : ℕ) (bs : List Tag) → Ascends name first c n → n ≤ length bs → ((k : ℕ) → k < c → delay (first + k) < none)
       → get_or (over_rows row first c bs) i Never ≡ at_place (delay_of name delay first c i) bs i
   unfolding over_rows
-  rows-lower zero n i bs up long small = ap (λ (d : ℕ). at_place d bs i) (sym (unnamed name delay first 0 i (λ c k. absurd (omega arith))))
+  rows-lower zero n i bs up long small = rw (unnamed name delay first 0 i (λ c k. absurd (omega arith))) refl
   rows-lower (suc c) n i bs up long small =
-      let before = rows-lower c (name (first + c)) i bs (ascends-less name delay first c n up) (let z = up.inside c (omega arith) in omega arith) (λ a l. small a (omega arith)) in
-      ⊎_elim (named before) (other before) (which (name (first + c)) i)
-    where
-      k : ℕ
-      k = first + c
-
-      xs : List Tag
-      xs = over_rows row first c bs
-
-      more : Tag
-      more = lower (get_or xs (name k) Never) t (delay k) (eqb (name k) j)
-
-      Before : Type 0
-      Before = get_or xs i Never ≡ at_place (delay_of name delay first c i) bs i
-
-      named : Before → name k ≡ i → get_or (set xs (name k) more) i Never ≡ at_place (delay_of name delay first (suc c) i) bs i
-      named before e =
-          let fresh : delay_of name delay first c i ≡ none = unnamed name delay first c i (λ a l q. let z = up.up a c l (omega arith) in omega arith) in
-          let kept : get_or xs i Never ≡ get_or bs i Never = before ∙ ap (λ (d : ℕ). at_place d bs i) fresh in
-          let room : name k < length xs = let z = up.inside c (omega arith) in omega (arith, length-rows c bs) in
-          ap (λ (a : ℕ). get_or (set xs (name k) more) a Never) (sym e)
-          ∙ get_or-set_same xs (name k) more Never room
-          ∙ ap (λ (a : ℕ). lower (get_or xs a Never) t (delay k) (eqb a j)) e
-          ∙ ap (λ (x : Tag). lower x t (delay k) (eqb i j)) kept
-          ∙ sym (ap (λ (a : Bool). pick a (lower (get_or bs i Never) t (delay k) (eqb i j)) (get_or bs i Never)) (lt-ltb (delay k) none (small c (omega arith))))
-          ∙ ap (λ (d : ℕ). at_place d bs i) (sym (last-named name delay first c i e))
-
-      other : Before → (name k ≡ i → ⊥) → get_or (set xs (name k) more) i Never ≡ at_place (delay_of name delay first (suc c) i) bs i
-      other before e =
-          get_or-set_other xs (name k) i more Never (λ q. e (sym q)) ∙ before ∙ ap (λ (d : ℕ). at_place d bs i) (sym (last-other name delay first c i e))
+      let z = up.inside c (omega arith) in
+      let s = small c (omega arith) in
+      let more = length-rows c bs in
+      let before = rows-lower c (name (first + c)) i bs (ascends-less name delay first c n up) (omega arith) (λ a l. small a (omega arith)) in
+      ⊎_elim
+      (λ (e : name (first + c) ≡ i).
+      let fresh : delay_of name delay first c i ≡ none = unnamed name delay first c i (λ a l q. let y = up.up a c l (omega arith) in omega arith) in
+      rw (last-named name delay first c i e, lt-ltb (delay (first + c)) none s) (rw e (get_or-set_same (over_rows row first c bs) i _ Never (omega arith) ∙ rw (before, fresh) refl)))
+      (λ (e : name (first + c) ≡ i → ⊥). rw (last-other name delay first c i e) (get_or-set_other (over_rows row first c bs) (name (first + c)) i _ Never (λ q. e (sym q)) ∙ before))
+      (which (name (first + c)) i)
 
 -- a member's own row asks nothing, nor does one that is not there
 asked : (a c : Bool) (x y : Tag) → pick a (pick c x (least_of x y)) x ≡ least_of x (pick (both a (not c)) y Forever)
-asked true true x y = sym (least-forever x)
-asked true false x y = refl
-asked false c x y = sym (least-forever x)
+asked a c x y = grind (arith, least-forever x)
 
 turned : (i j : ℕ) → eqb i j ≡ eqb j i
-turned i j = ⊎_elim (λ (e : i ≡ j). eq-eqb i j e ∙ sym (eq-eqb j i (sym e))) (λ (n : i ≡ j → ⊥). ne_eqb i j n ∙ sym (ne_eqb j i (λ e. n (sym e)))) (which i j)
+turned i j = grind (arith, nat_tests)
 
 module _ (b : List ℕ) (laid : Laid b) (ordered : Ordered b) (mild : Mild b) where
   length_to : (t : Tag) (j : ℕ) (bs : List Tag) → length (bounds_to b t j (transitive_count b j) bs) ≡ length bs
@@ -102,7 +79,7 @@ module _ (b : List ℕ) (laid : Laid b) (ordered : Ordered b) (mild : Mild b) wh
       rows-lower (transitive_source b) (transitive_delay b) (transitive_first b j) t j (transitive_count b j) (members b) i bs (ordered.transitives j l) long
       (λ c m. let q = laid.transitive-rows.at j l in let r = mild.transitive (transitive_first b j + c) (omega arith) in omega arith)
       ∙ asked (ltb d none) (eqb i j) (get_or bs i Never) (less_of t d)
-      ∙ ap (λ (c : Bool). least_of (get_or bs i Never) (pick (both (ltb d none) (not c)) (less_of t d) Forever)) (turned i j)
+      ∙ rw (turned i j) refl
 
   pub length-bounds : (es : List Tag) (n : ℕ) → length (bounds_in b es n) ≡ 32
   unfolding bounds_in
@@ -118,9 +95,7 @@ module _ (b : List ℕ) (laid : Laid b) (ordered : Ordered b) (mild : Mild b) wh
   to-all v es e i zero l m = get_or-replicate 32 i Forever Never (let few = laid.few-members in omega arith)
   to-all v es e i (suc j) l m =
       let few = laid.few-members in
-      to_one (get_or es j Never) i j (bounds_in b es j) (omega arith) (omega (arith, length-bounds es j))
-      ∙ ap (λ (t : Tag). least_of (get_or (bounds_in b es j) i Never) (pick (downstream (net_in b) i j) (less_of t ((net_in b).minimum i j)) Forever)) (e.at j)
-      ∙ ap (λ (t : Tag). least_of t (asks v i j)) (to-all v es e i j l (omega arith))
+      rw (to_one (get_or es j Never) i j (bounds_in b es j) (omega arith) (omega (arith, length-bounds es j)), e.at j, to-all v es e i j l (omega arith)) refl
 
   -- The bound of member i, over the members of a session
   pub bounds-rows : (v : ℕ → Member) (es : List Tag) → Earliests v es → (i : ℕ) → i < members b → get_or (bounds_in b es (members b)) i Never ≡ bound_of (net_in b) v i

@@ -5,10 +5,11 @@ use mathlib.Core.Path.{◌≡◌, refl, sym, ap, ◌∙◌}
 use mathlib.Core.List.{List, [], ◌∷◌, ◌++◌, append_assoc, map}
 use native.Mathlib.Omega.{arith}
 use native.Mathlib.Nat.{not-suc-le-zero, le_of_suc-le-suc}
-use lib.ListN.{length, get_or, set, take, drop, replicate, length-append, length-map, length-set, length-drop, take-append-drop, drop_of_length-le, get_or-replicate, length-replicate, get_or-append, get_or-map}
-use lib.Seq.{drop-cons, drop-drop, take-add, take_at, drop_at, drop-append-add, take-append-add, get_or-append-add, set-append_left}
+use Rattle.std.proofs.lemmas.Grind.{common_steps}
+use Rattle.std.proofs.lemmas.List.{map-set}
+use lib.ListN.{length, get_or, set, take, drop, replicate, length-map, length-set, take-append-drop, get_or-map}
+use lib.Seq.{drop-cons, drop-drop, take-add, take_at, drop-append-add, take-append-add, set-append_left}
 use Rattle.basis.specs.Parts.{part, replaced}
-use Rattle.tags.specs.declared.Tag.{Tag}
 use Rattle.transit.specs.Words.{slots, lay, stretch}
 use Rattle.transit.proofs.Words.{length-lay}
 use Rattle.states.specs.declared.MemberState.{MemberState}
@@ -31,18 +32,15 @@ module _ (rs : List MemberState) (slab : List ℕ) where
   pub members-at : (i k j : ℕ) → j < k → get_or (members_from rs slab i k) j blank ≡ member_at (i + j)
   unfolding members_from
   members-at i zero j l = absurd (not-suc-le-zero l)
-  members-at i (suc k) zero l = let e : i ≡ i + 0 = omega arith in ap member_at e
-  members-at i (suc k) (suc j) l = let e : suc i + j ≡ i + suc j = omega arith in members-at (suc i) k j (le_of_suc-le-suc l) ∙ ap member_at e
+  members-at i (suc k) zero l = grind (arith, common_steps)
+  members-at i (suc k) (suc j) l = grind (arith, common_steps, members-at (suc i) k j)
 
   -- the records of the members are those that were read
   pub records-back : (i k : ℕ) → i + k ≤ length rs → ((j : ℕ) → j < i + k → record_of (member_at j) ≡ get_or rs j blank_record)
       → map record_of (members_from rs slab i k) ≡ take k (drop i rs)
   unfolding members_from
   records-back i zero l h = refl
-  records-back i (suc k) l h =
-      ap (λ (r : MemberState). r ∷ map record_of (members_from rs slab (suc i) k)) (h i (omega arith))
-      ∙ ap (λ (ys : List MemberState). get_or rs i blank_record ∷ ys) (records-back (suc i) k (omega arith) (λ j m. h j (omega arith)))
-      ∙ sym (ap (take (suc k)) (drop-cons rs i blank_record (omega arith)))
+  records-back i (suc k) l h = grind (arith, common_steps, drop-cons rs i blank_record, h i, records-back (suc i) k (omega arith) (λ j m. h j (omega arith)))
 
   -- and their words
   pub lays_back : (i k : ℕ) → 64 * i + 64 * k ≤ length slab → ((j : ℕ) → j < i + k → lay slots (member_at j).transit ≡ stretch j slab)
@@ -52,23 +50,14 @@ module _ (rs : List MemberState) (slab : List ℕ) where
   lays_back i (suc k) l h =
       let more : 64 * suc k ≡ 64 + 64 * k = omega arith in
       let next : 64 * i + 64 ≡ 64 * suc i = omega arith in
-      let rest = lays_back (suc i) k (omega arith) (λ j m. h j (omega arith)) in
-      ap (λ (w : List ℕ). w ++ lays_of (members_from rs slab (suc i) k)) (h i (omega arith))
-      ∙ ap (λ (w : List ℕ). stretch i slab ++ w) rest
-      ∙ ap (λ (n : ℕ). take 64 (drop (64 * i) slab) ++ take (64 * k) (drop n slab)) (sym next)
-      ∙ ap (λ (w : List ℕ). take 64 (drop (64 * i) slab) ++ take (64 * k) w) (sym (drop-drop 64 (64 * i) slab))
-      ∙ sym (take-add 64 (64 * k) (drop (64 * i) slab))
-      ∙ ap (λ (n : ℕ). take n (drop (64 * i) slab)) (sym more)
+      rw (more, take-add, drop-drop, next) (cc (h i (omega arith), lays_back (suc i) k (omega arith) (λ j m. h j (omega arith))))
 
   -- records that are blank from place n on
   pub blanks-back : (n m : ℕ) → n + m ≡ length rs → ((k : ℕ) → k < m → get_or rs (n + k) blank_record ≡ blank_record) → replicate m blank_record ≡ drop n rs
-  blanks-back n zero e h = sym (drop_of_length-le rs {i = n} (omega arith))
+  blanks-back n zero e h = grind (arith, common_steps)
   blanks-back n (suc m) e h =
-      let here : n + 0 ≡ n = omega arith in
-      let rest = blanks-back (suc n) m (omega arith) (λ k l. let q : suc n + k ≡ n + suc k = omega arith in ap (λ (i : ℕ). get_or rs i blank_record) q ∙ h (suc k) (omega arith)) in
-      ap (λ (ys : List MemberState). blank_record ∷ ys) rest
-      ∙ ap (λ (r : MemberState). r ∷ drop (suc n) rs) (sym (h 0 (omega arith)) ∙ ap (λ (i : ℕ). get_or rs i blank_record) here)
-      ∙ sym (drop-cons rs n blank_record (omega arith))
+      let rest = blanks-back (suc n) m (omega arith) (λ k l. let q : suc n + k ≡ n + suc k = omega arith in rw q (h (suc k) (omega arith))) in
+      grind (arith, common_steps, h 0, drop-cons rs n blank_record, rest)
 
 pub session-length : (s : State) (slab : List ℕ) → length (session_of s slab).members ≡ s.count
 unfolding session_of
@@ -107,22 +96,19 @@ module _ (s : State) (slab : List ℕ) where
 pub length-lays : (ms : List Member) → length (lays_of ms) ≡ 64 * length ms
 unfolding lays_of
 length-lays [] = refl
-length-lays (m ∷ ms) = length-append (lay slots m.transit) (lays_of ms) ∙ omega (arith, length-lay slots m.transit, length-lays ms)
+length-lays (m ∷ ms) = grind (arith, common_steps, length-lay slots m.transit, length-lays ms)
 
 -- what stands behind a front
 replaced-behind : (a : ℕ) (front xs l : List ℕ) → replaced (length front + a) xs (front ++ l) ≡ front ++ replaced a xs l
 unfolding replaced
 replaced-behind a front xs l =
     let e : length front + a + length xs ≡ length front + (a + length xs) = omega arith in
-    ap (λ (w : List ℕ). w ++ (xs ++ drop (length front + a + length xs) (front ++ l))) (take-append-add front l a)
-    ∙ ap (λ (n : ℕ). (front ++ take a l) ++ (xs ++ drop n (front ++ l))) e
-    ∙ ap (λ (w : List ℕ). (front ++ take a l) ++ (xs ++ w)) (drop-append-add front l (a + length xs))
-    ∙ append_assoc front (take a l) (xs ++ drop (a + length xs) l)
+    rw (e, take-append-add, drop-append-add) (simp append_assoc)
 
 -- as many in the place of a front
 replaced-front : (xs front l : List ℕ) → length xs ≡ length front → replaced 0 xs (front ++ l) ≡ xs ++ l
 unfolding replaced
-replaced-front xs front l e = ap (λ (w : List ℕ). xs ++ w) (let q : length front ≡ 0 + length xs = omega arith in drop_at front l (0 + length xs) q)
+replaced-front xs front l e = grind (arith, common_steps)
 
 -- the words of the member at place i
 pub lays-at : (ms : List Member) (rest : List ℕ) (i : ℕ) → i < length ms → stretch i (lays_of ms ++ rest) ≡ lay slots (get_or ms i blank).transit
@@ -133,10 +119,7 @@ lays-at (m ∷ ms) rest zero l =
 lays-at (m ∷ ms) rest (suc i) l =
     let front = lay slots m.transit in
     let e : 64 * suc i ≡ length front + 64 * i = omega (arith, length-lay slots m.transit) in
-    ap (λ (n : ℕ). take 64 (drop n ((front ++ lays_of ms) ++ rest))) e
-    ∙ ap (λ (w : List ℕ). take 64 (drop (length front + 64 * i) w)) (append_assoc front (lays_of ms) rest)
-    ∙ ap (take 64) (drop-append-add front (lays_of ms ++ rest) (64 * i))
-    ∙ lays-at ms rest i (le_of_suc-le-suc l)
+    rw (e, append_assoc, drop-append-add) (lays-at ms rest i (le_of_suc-le-suc l))
 
 -- one member replaced: its stretch is, and no other word
 pub lays-put : (ms : List Member) (rest : List ℕ) (i : ℕ) (m : Member) → i < length ms
@@ -144,43 +127,28 @@ pub lays-put : (ms : List Member) (rest : List ℕ) (i : ℕ) (m : Member) → i
 unfolding lays_of
 lays-put [] rest i m l = absurd (not-suc-le-zero l)
 lays-put (x ∷ ms) rest zero m l =
-    append_assoc (lay slots m.transit) (lays_of ms) rest
-    ∙ sym (replaced-front (lay slots m.transit) (lay slots x.transit) (lays_of ms ++ rest) (length-lay slots m.transit ∙ sym (length-lay slots x.transit)))
-    ∙ ap (replaced 0 (lay slots m.transit)) (sym (append_assoc (lay slots x.transit) (lays_of ms) rest))
+    let e : length (lay slots m.transit) ≡ length (lay slots x.transit) = length-lay slots m.transit ∙ sym (length-lay slots x.transit) in
+    rw (append_assoc, append_assoc) (sym (replaced-front (lay slots m.transit) (lay slots x.transit) (lays_of ms ++ rest) e))
 lays-put (x ∷ ms) rest (suc i) m l =
     let front = lay slots x.transit in
-    let e : length front + 64 * i ≡ 64 * suc i = omega (arith, length-lay slots x.transit) in
-    append_assoc front (lays_of (set ms i m)) rest
-    ∙ ap (λ (w : List ℕ). front ++ w) (lays-put ms rest i m (le_of_suc-le-suc l))
-    ∙ sym (replaced-behind (64 * i) front (lay slots m.transit) (lays_of ms ++ rest))
-    ∙ ap (λ (n : ℕ). replaced n (lay slots m.transit) (front ++ (lays_of ms ++ rest))) e
-    ∙ ap (replaced (64 * suc i) (lay slots m.transit)) (sym (append_assoc front (lays_of ms) rest))
+    let e : 64 * suc i ≡ length front + 64 * i = omega (arith, length-lay slots x.transit) in
+    rw (e, append_assoc, append_assoc, replaced-behind) (ap (λ (w : List ℕ). front ++ w) (lays-put ms rest i m (le_of_suc-le-suc l)))
 
 -- one that keeps its tags leaves every word
 lays-kept : (ms : List Member) (i : ℕ) (m : Member) → m.transit ≡ (get_or ms i blank).transit → lays_of (set ms i m) ≡ lays_of ms
 unfolding lays_of
 lays-kept [] i m e = refl
-lays-kept (x ∷ ms) zero m e = ap (λ (ts : List Tag). lay slots ts ++ lays_of ms) e
-lays-kept (x ∷ ms) (suc i) m e = ap (λ (w : List ℕ). lay slots x.transit ++ w) (lays-kept ms i m e)
-
-map-set : (ms : List Member) (i : ℕ) (m : Member) → map record_of (set ms i m) ≡ set (map record_of ms) i (record_of m)
-map-set [] i m = refl
-map-set (x ∷ ms) zero m = refl
-map-set (x ∷ ms) (suc i) m = ap (λ (ys : List MemberState). record_of x ∷ ys) (map-set ms i m)
+lays-kept (x ∷ ms) zero m e = cc
+lays-kept (x ∷ ms) (suc i) m e = cc (lays-kept ms i m e)
 
 module _ (x : Session) where
   pub state-at : (i : ℕ) → i < length x.members → get_or (state_of x).members i blank_record ≡ record_of (view x i)
   unfolding state_of
-  state-at i l =
-      get_or-append (map record_of x.members) (replicate (32 - length x.members) blank_record) blank_record i (omega (arith, length-map x.members record_of))
-      ∙ get_or-map record_of x.members i blank
+  state-at i l = grind (arith, common_steps, get_or-map record_of x.members i blank)
 
   pub state-rest : (k : ℕ) → k < 32 - length x.members → get_or (state_of x).members (length x.members + k) blank_record ≡ blank_record
   unfolding state_of
-  state-rest k l =
-      ap (λ (n : ℕ). get_or (map record_of x.members ++ replicate (32 - length x.members) blank_record) (n + k) blank_record) (sym (length-map x.members record_of))
-      ∙ get_or-append-add (map record_of x.members) (replicate (32 - length x.members) blank_record) k blank_record
-      ∙ get_or-replicate (32 - length x.members) k blank_record blank_record l
+  state-rest k l = grind (arith, common_steps)
 
   pub state-count : (state_of x).count ≡ length x.members
   unfolding state_of
@@ -188,8 +156,7 @@ module _ (x : Session) where
 
   pub state-length : length x.members ≤ 32 → length (state_of x).members ≡ 32
   unfolding state_of
-  state-length l = length-append (map record_of x.members) (replicate (32 - length x.members) blank_record)
-      ∙ omega (arith, length-map x.members record_of, length-replicate (32 - length x.members) blank_record)
+  state-length l = grind (arith, common_steps)
 
   pub slab-at : (old : List ℕ) (i : ℕ) → i < length x.members → stretch i (slab_of x old) ≡ lay slots (view x i).transit
   unfolding slab_of
@@ -197,8 +164,7 @@ module _ (x : Session) where
 
   pub slab-length : (old : List ℕ) → 64 * length x.members ≤ length old → length (slab_of x old) ≡ length old
   unfolding slab_of
-  slab-length old l = length-append (lays_of x.members) (drop (64 * length x.members) old)
-      ∙ omega (arith, length-lays x.members, length-drop (64 * length x.members) old)
+  slab-length old l = grind (arith, common_steps, length-lays x.members)
 
   -- one member replaced
   pub state-put : (i : ℕ) (m : Member) → i < length x.members
@@ -206,18 +172,12 @@ module _ (x : Session) where
   unfolding state_of
   state-put i m l =
       let rest = replicate (32 - length x.members) blank_record in
-      ap (λ (k : ℕ). record { members = map record_of (set x.members i m) ++ replicate (32 - k) blank_record; count = k; identity = x.identity; cause = x.cause; code = x.code }) (length-set x.members i m)
-      ∙ ap (λ (ms : List MemberState). record { members = ms; count = length x.members; identity = x.identity; cause = x.cause; code = x.code })
-      (ap (λ (ms : List MemberState). ms ++ rest) (map-set x.members i m) ∙ sym (set-append_left (map record_of x.members) rest i (record_of m) (omega (arith, length-map x.members record_of))))
+      rw (length-set, map-set) (cc (set-append_left (map record_of x.members) rest i (record_of m) (omega (arith, length-map x.members record_of))))
 
   pub slab-put : (old : List ℕ) (i : ℕ) (m : Member) → i < length x.members → slab_of (put x i m) old ≡ replaced (64 * i) (lay slots m.transit) (slab_of x old)
   unfolding slab_of
-  slab-put old i m l =
-      ap (λ (k : ℕ). lays_of (set x.members i m) ++ drop (64 * k) old) (length-set x.members i m)
-      ∙ lays-put x.members (drop (64 * length x.members) old) i m l
+  slab-put old i m l = rw length-set (lays-put x.members (drop (64 * length x.members) old) i m l)
 
   pub slab-kept : (old : List ℕ) (i : ℕ) (m : Member) → m.transit ≡ (view x i).transit → slab_of (put x i m) old ≡ slab_of x old
   unfolding slab_of
-  slab-kept old i m e =
-      ap (λ (k : ℕ). lays_of (set x.members i m) ++ drop (64 * k) old) (length-set x.members i m)
-      ∙ ap (λ (w : List ℕ). w ++ drop (64 * length x.members) old) (lays-kept x.members i m e)
+  slab-kept old i m e = rw (length-set, lays-kept x.members i m e)

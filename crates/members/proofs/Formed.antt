@@ -1,15 +1,15 @@
 -- Well formed as a test of words (14) and as a session: each says the other, and nothing is lost on the way.
 -- Assumes nothing.
-use Prim.Native.Nat.{ℕ, zero, suc, ◌+◌, ◌*◌, ◌-◌, ◌≤◌, ◌<◌}
-use mathlib.Core.Path.{◌≡◌, sym, ap, subst, ◌∙◌}
+use Prim.Native.Nat.{ℕ, ◌+◌, ◌*◌, ◌-◌, ◌≤◌, ◌<◌}
+use mathlib.Core.Path.{◌≡◌, refl, sym, ap, subst, ◌∙◌}
 use mathlib.Core.Bool.{true}
-use mathlib.Core.List.{List, [], ◌∷◌}
+use mathlib.Core.List.{List}
 use native.Mathlib.Omega.{arith}
+use Rattle.std.proofs.lemmas.Grind.{common_steps}
 use lib.Dec.{eqb}
-use lib.ListN.{length, get_or, take, drop}
-use lib.Seq.{get_or-drop, ext_get_or}
+use lib.ListN.{length, get_or}
+use lib.Seq.{ext_get_or}
 use borrow.Author.Tests.{eqb-true, eq-eqb}
-use Rattle.basis.specs.Choice.{both}
 use Rattle.basis.specs.Parts.{part}
 use Rattle.tags.specs.Tags.{top}
 use Rattle.transit.specs.Words.{stretch, Laid as Laid-stretch}
@@ -25,28 +25,19 @@ use Rattle.rows.specs.Nets.{net_in}
 use Rattle.members.specs.Codes.{member_of, members_from, session_of, record_of, state_of, slab_of, AllHold}
 use Rattle.members.specs.Formed.{every, formed_record, formed_at, is_blank, blank_at, formed}
 use Rattle.members.proofs.Typed.{Typed}
-use Rattle.members.proofs.Records.{every-at, every_of, both_of, blank-is, blank-formed, record_holds, record_formed, record_back, member-formed, member_back}
+use Rattle.members.proofs.Records.{every-at, every_of, blank-is, blank-formed, record_holds, record_formed, record_back, member-formed, member_back}
 use Rattle.members.proofs.Codes.{session-length, view-at, state-back, slab-back, length-members, members-at, member_at, state-at, state-rest, state-count, slab-at, slab-length}
 
 -- the words of a part are no larger
-take_bound : (n : ℕ) (l : List ℕ) (t : ℕ) → ((k : ℕ) → get_or l k 0 ≤ t) → (k : ℕ) → get_or (take n l) k 0 ≤ t
-take_bound zero l t h k = omega arith
-take_bound (suc n) [] t h k = omega arith
-take_bound (suc n) (x ∷ xs) t h zero = h 0
-take_bound (suc n) (x ∷ xs) t h (suc k) = take_bound n xs t (λ j. h (suc j)) k
-
 part-bound : (n a : ℕ) (l : List ℕ) (t : ℕ) → ((k : ℕ) → get_or l k 0 ≤ t) → (k : ℕ) → get_or (part n a l) k 0 ≤ t
 unfolding part
-part-bound n a l t h k = take_bound n (drop a l) t (λ j. subst (λ (x : ℕ). x ≤ t) (sym (get_or-drop a l j 0)) (h (a + j))) k
+part-bound n a l t h k = grind (arith, common_steps, h)
 
 -- ---- a state and a slab that pass
 module _ (b : List ℕ) (laid : Laid b) (s : State) (w : List ℕ) (fits : 64 * members b ≤ length w) (h : formed (net_in b) s w ≡ true) where
   says : (eqb s.count (members b) ≡ true) × (every (formed_at (net_in b) s w) (members b) ≡ true) × (every (blank_at s (members b)) (32 - members b) ≡ true)
   unfolding formed net_in
-  says =
-      let p = both_true (eqb s.count (members b)) (both (every (formed_at (net_in b) s w) (members b)) (every (blank_at s (members b)) (32 - members b))) h in
-      let q = both_true (every (formed_at (net_in b) s w) (members b)) (every (blank_at s (members b)) (32 - members b)) p.1 in
-      (p.0, q.0, q.1)
+  says = grind (arith, both_true)
 
   -- as many records as the plan has members
   pub formed-count : s.count ≡ members b
@@ -126,8 +117,8 @@ module _ (b : List ℕ) (laid : Laid b) (x : Session) (sound : Sound (net_in b) 
   pub sound-formed : (w : List ℕ) → formed (net_in b) (state_of x) (slab_of x w) ≡ true
   unfolding formed net_in
   sound-formed w =
-      both_of _ _ (eq-eqb (state_of x).count (members b) (state-count x ∙ sound-count))
-      (both_of _ _ (every_of (formed_at (net_in b) (state_of x) (slab_of x w)) (members b) (passes_at w)) (every_of (blank_at (state_of x) (members b)) (32 - members b) blank-past))
+      rw (eq-eqb (state_of x).count (members b) (state-count x ∙ sound-count), every_of (formed_at (net_in b) (state_of x) (slab_of x w)) (members b) (passes_at w), every_of (blank_at (state_of x) (members b)) (32 - members b) blank-past)
+      refl
 
   -- and stands for the same session
   pub sound-session : (w : List ℕ) → session_of (state_of x) (slab_of x w) ≡ x

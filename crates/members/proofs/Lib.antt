@@ -1,5 +1,5 @@
 pub mod Nets
-pub mod Delays
+pub mod Every
 pub mod Steps
 pub mod Typed
 pub mod Records

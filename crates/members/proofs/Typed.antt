@@ -3,6 +3,7 @@
 use Prim.Native.Nat.{ℕ, zero, suc}
 use mathlib.Core.Path.{◌≡◌}
 use mathlib.Core.List.{List, [], ◌∷◌}
+use Rattle.std.proofs.Common.{Option, Some, None}
 use native.Mathlib.Omega.{arith}
 use lib.ListN.{length, get_or}
 use mir.Val.{Val}
@@ -11,30 +12,26 @@ use denote.Shadow.{shadow}
 use denote.Array.{each}
 use denote.Laws.{Is}
 use denote.Struct.Declared.{row}
-use denote.Enum.Declared.{row as choice}
+use Rattle.std.specs.contracts.option.Option.{the_row as OptionOf}
+use Rattle.tags.specs.declared.Tag.{Tag}
 use Rattle.tags.specs.declared.Tag.TheVariants.{Never, Finite, Forever}
 use Rattle.tags.proofs.Laws.{Small}
-use Rattle.states.specs.declared.Next.TheVariants.{Quiet, Event}
 use Rattle.states.specs.declared.Publication.{Publication}
-use Rattle.states.specs.declared.Publication.TheVariants.{Unpublished, Published}
-use Rattle.states.specs.declared.Limit.{Limit}
-use Rattle.states.specs.declared.Limit.TheVariants.{Absent, Upto}
 use Rattle.states.specs.declared.MemberState.{MemberState}
 use Rattle.states.specs.declared.State.{State}
 use Rattle.states.specs.Records.{blank_record}
 use Rattle.states.specs.contracts.Publication as publication
-use Rattle.states.specs.contracts.Limit as limits
+use Rattle.tags.specs.contracts.Tag as tag
 use Rattle.states.specs.contracts.MemberState as member
 use Rattle.states.specs.contracts.State as state
 
-abbrev pub SmallEvent : Publication → Type 0
-SmallEvent Unpublished = Unit {0}
-SmallEvent (Published r Quiet) = Unit {0}
-SmallEvent (Published r (Event t)) = Small t
+abbrev pub SmallLimit : Option Tag → Type 0
+SmallLimit None = Unit {0}
+SmallLimit (Some t) = Small t
 
-abbrev pub SmallLimit : Limit → Type 0
-SmallLimit Absent = Unit {0}
-SmallLimit (Upto t) = Small t
+abbrev pub SmallEvent : Option Publication → Type 0
+SmallEvent None = Unit {0}
+SmallEvent (Some p) = SmallLimit p.next
 
 abbrev pub SmallRecord : MemberState → Type 0
 SmallRecord r = SmallEvent r.publication × SmallLimit r.completed
@@ -44,18 +41,15 @@ pub record Typed (s : State) : Type 0 where
   pub small : (i : ℕ) → SmallRecord (get_or s.members i blank_record)
 
 -- ---- every state that the code holds is so
-event-small : (p : Publication) (vs : List Val) → Is (choice publication.the_type) p vs → SmallEvent p
-event-small Unpublished vs h = tt
-event-small (Published r Quiet) vs h = tt
-event-small (Published r (Event Never)) vs h = tt
-event-small (Published r (Event (Finite o m))) vs h = omega arith
-event-small (Published r (Event Forever)) vs h = tt
+limit-small : (l : Option Tag) (vs : List Val) → Is (OptionOf tag.the_row) l vs → SmallLimit l
+limit-small None vs h = tt
+limit-small (Some Never) vs h = tt
+limit-small (Some (Finite o m)) vs h = omega arith
+limit-small (Some Forever) vs h = tt
 
-limit-small : (l : Limit) (vs : List Val) → Is (choice limits.the_type) l vs → SmallLimit l
-limit-small Absent vs h = tt
-limit-small (Upto Never) vs h = tt
-limit-small (Upto (Finite o m)) vs h = omega arith
-limit-small (Upto Forever) vs h = tt
+event-small : (p : Option Publication) (vs : List Val) → Is (OptionOf publication.the_row) p vs → SmallEvent p
+event-small None vs h = tt
+event-small (Some p) vs h = limit-small p.next _ h.1.1.1.1.0.1.1.1.0
 
 record_small : (r : MemberState) (vs : List Val) → Is (row member.the_type) r vs → SmallRecord r
 record_small r vs h = (event-small r.publication _ h.1.1.1.0, limit-small r.completed _ h.1.1.1.1.1.1.1.0)

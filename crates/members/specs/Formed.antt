@@ -1,42 +1,29 @@
 -- Well formed (refusal 14), as a test of a plan, a state and a slab.
 -- Assumes nothing.
-use Rattle.std.specs.Prelude.{ℕ, zero, suc, ◌+◌, ◌-◌, Bool, true, false, List, eqb, get_or}
+use Rattle.std.specs.Prelude.{ℕ, ◌+◌, ◌-◌, Bool, true, false, List, eqb, get_or, Option, Some, None}
 use Rattle.basis.specs.Choice.{not, both, either}
+use Rattle.tags.specs.declared.Tag.{Tag}
 use Rattle.tags.specs.Tags.{tag_le}
 use Rattle.transit.specs.Tags.{within}
 use Rattle.transit.specs.Words.{stretch, formed_stretch}
-use Rattle.states.specs.declared.Next.{Next}
-use Rattle.states.specs.declared.Next.TheVariants.{Quiet, Event}
 use Rattle.states.specs.declared.Publication.{Publication}
-use Rattle.states.specs.declared.Publication.TheVariants.{Unpublished, Published}
-use Rattle.states.specs.declared.Limit.{Limit}
-use Rattle.states.specs.declared.Limit.TheVariants.{Absent, Upto}
 use Rattle.states.specs.declared.MemberState.{MemberState}
 use Rattle.states.specs.declared.State.{State}
 use Rattle.states.specs.Records.{blank_record}
 use Rattle.states.specs.Sessions.{or_never}
 use Rattle.states.specs.Rules.{is_set}
+unfoldable pub use Rattle.states.specs.Steps.{every}
 use Rattle.plans.specs.Nets.{Net}
 
--- the tests hold at 0 .. k - 1
-unfoldable pub every : (ℕ → Bool) → ℕ → Bool
-every f zero = true
-every f (suc k) = both (every f k) (f k)
-
--- an event finite with offset at most L
-abbrev pub next_within : Next → Bool
-next_within Quiet = true
-next_within (Event t) = within t
+-- a tag, if there is one, finite with offset at most L
+abbrev pub limit_within : Option Tag → Bool
+limit_within None = true
+limit_within (Some t) = within t
 
 -- publication finite with offset at most L
-abbrev pub event_within : Publication → Bool
-event_within Unpublished = true
-event_within (Published r e) = next_within e
-
--- completion finite with offset at most L
-abbrev pub limit_within : Limit → Bool
-limit_within Absent = true
-limit_within (Upto t) = within t
+abbrev pub event_within : Option Publication → Bool
+event_within None = true
+event_within (Some p) = limit_within p.next
 
 -- completed not above granted (absent: NEVER); stopped only if idle
 unfoldable pub orderly : MemberState → Bool
@@ -51,13 +38,13 @@ limited r = both (event_within r.publication) (limit_within r.completed)
 unfoldable pub formed_record : ℕ → MemberState → List ℕ → Bool
 formed_record capacity r ws = both (limited r) (both (orderly r) (formed_stretch capacity (or_never r.completed) r.held ws))
 
-abbrev pub is_unpublished : Publication → Bool
-is_unpublished Unpublished = true
-is_unpublished (Published r e) = false
+abbrev pub is_unpublished : Option Publication → Bool
+is_unpublished None = true
+is_unpublished (Some p) = false
 
-abbrev pub is_absent : Limit → Bool
-is_absent Absent = true
-is_absent (Upto t) = false
+abbrev pub is_absent : Option Tag → Bool
+is_absent None = true
+is_absent (Some t) = false
 
 -- every option of a record is absent
 unfoldable pub bare : MemberState → Bool

@@ -6,8 +6,6 @@ use Rattle.tags.specs.declared.Tag.{Tag}
 use Rattle.tags.specs.declared.Tag.TheVariants.{Never, Finite, Forever}
 use Rattle.tags.specs.Tags.{least_of, greatest_of, delayed, pred_of, less_of}
 use Rattle.transit.specs.Tags.{limit}
-use Rattle.states.specs.declared.Next.{Next}
-use Rattle.states.specs.declared.Next.TheVariants.{Quiet, Event}
 use Rattle.transit.specs.Words.{stretch}
 use Rattle.states.specs.declared.State.{State}
 use Rattle.states.specs.Records.{blank_record}
@@ -16,11 +14,6 @@ use Rattle.states.specs.Rules.{past, earliest}
 use Rattle.rows.specs.Rows.{directs, transitives, direct_source, direct_delay, direct_first, direct_count, transitive_source, transitive_delay, transitive_first, transitive_count}
 use Rattle.rows.specs.Loops.{over_rows}
 use Rattle.members.specs.Codes.{member_of}
-
--- what an event awaits: none FOREVER
-abbrev pub expected : Next → Tag
-expected Quiet = Forever
-expected (Event t) = t
 
 -- an offset of at most L
 abbrev pub Low : Tag → Type 0
@@ -47,6 +40,10 @@ abbrev pub completed_at : State → ℕ → Tag
 completed_at s i = or_never (get_or s.members i blank_record).completed
 
 -- ---- the horizon
+-- the least of f over c rows from `first` on
+unfoldable pub least_in : (ℕ → Tag) → ℕ → ℕ → Tag
+least_in f first c = over_rows (λ x k. least_of x (f k)) first c Forever
+
 -- (a) the least earliest-plus-minimum-delay over the first c transitive rows of j
 abbrev pub coming_at : List ℕ → List Tag → Tag → ℕ → Tag
 coming_at b earliest x k = least_of x (delayed (get_or earliest (transitive_source b k) Never) (transitive_delay b k))

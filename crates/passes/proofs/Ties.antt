@@ -14,16 +14,16 @@ use Rattle.basis.proofs.Parts.{replaced-join}
 use Rattle.tags.specs.declared.Tag.{Tag}
 use Rattle.tags.specs.declared.Tag.TheVariants.{Never}
 use Rattle.plans.specs.Nets.{none, downstream}
-use Rattle.states.specs.declared.Next.TheVariants.{Quiet, Event}
+use Rattle.std.specs.Prelude.{Option, Some, None}
 use Rattle.states.specs.declared.Publication.{Publication}
-use Rattle.states.specs.declared.Publication.TheVariants.{Unpublished, Published}
 use Rattle.states.specs.declared.MemberState.{MemberState}
 use Rattle.states.specs.declared.State.{State}
 use Rattle.states.specs.declared.Delivery.{Delivery}
 use Rattle.states.specs.declared.Delivery.TheVariants.{Grant, Idle, Suppress}
 use Rattle.states.specs.Sessions.{Member, Session, or_never, view, put, with_grant, with_bound, with_idle}
-use Rattle.states.specs.Rules.{awaited, earliest, horizon, due, revision_of, bound_of}
+use Rattle.states.specs.Rules.{awaited, earliest, horizon, due, due_at, revision_of, bound_of}
 use Rattle.states.specs.Steps.{Out, Pass, tell, each, every, to_all, visit, granting, grant_below, grants, is_empty, at_rest, confirmed, idling, idles, bounding, bounds, follow}
+use Rattle.states.proofs.Every.{every-same}
 use Rattle.states.proofs.Laws.{picked}
 use Rattle.states.proofs.Passes.{put_all, Long, visit-long}
 use Rattle.states.proofs.Counts.{idles-off, bounds-still}
@@ -41,7 +41,8 @@ use Rattle.members.proofs.Bounds.{bounds-rows}
 use Rattle.members.proofs.Nets.{net_count}
 use Rattle.tags.specs.Tags.{least_of}
 use Rattle.transit.specs.Tags.{first_of}
-use Rattle.passes.specs.Pages.{Page, record_at, with_record, posting, telling, grant_to, grant_at, grant_by, grants_in, resting, rest_at, idle_to, idle_at, bound_to, bound_at, settled_in}
+use Rattle.states.specs.Records.{record_at, with_record}
+use Rattle.passes.specs.Pages.{Page, posting, telling, grant_to, grant_at, grant_by, grants_in, resting, rest_at, idle_to, idle_at, bound_to, bound_at, settled_in}
 use Rattle.passes.specs.Ties.{all_words, Shows}
 
 -- ---- words
@@ -92,11 +93,14 @@ either_way true x y f g old p q = p
 either_way false x y f g old p q = q
 
 -- ---- the rules read no tags of the record itself
-pub due-plain : (p : Publication) (m : Member) (h : Tag) → due p (plainly (record_of m)) h ≡ due p m h
+pub due-plain : (p : Option Publication) (m : Member) (h : Tag) → due p (plainly (record_of m)) h ≡ due p m h
 unfolding due
-due-plain Unpublished m h = refl
-due-plain (Published r Quiet) m h = refl
-due-plain (Published r (Event e)) m h = refl
+due-plain None m h = refl
+due-plain (Some p) m h = by p.next
+  where
+    by : (e : Option Tag) → due_at p.revision e (plainly (record_of m)) h ≡ due_at p.revision e m h
+    by None = refl
+    by (Some t) = refl
 
 pub empty-length : (ts : List Tag) → eqb (length ts) 0 ≡ is_empty ts
 empty-length [] = refl
@@ -113,7 +117,7 @@ pub record Tied (b : List ℕ) (es ds : List Tag) (old : List ℕ) (o : Out) (g 
 earliest-kept : (s : Session) (j : ℕ) (m : Member) (es : List Tag) → m.publication ≡ (view s j).publication → m.transit ≡ (view s j).transit → Earliests (view s) es → Earliests (view (put s j m)) es
 unfolding earliest
 earliest-kept s j m es p t h =
-    record { at = put_all s j m (λ i x. get_or es i Never ≡ earliest x) (h.at j ∙ ap₂ (λ (q : Publication) (ts : List Tag). least_of (awaited q) (first_of ts)) (sym p) (sym t)) h.at }
+    record { at = put_all s j m (λ i x. get_or es i Never ≡ earliest x) (h.at j ∙ ap₂ (λ (q : Option Publication) (ts : List Tag). least_of (awaited q) (first_of ts)) (sym p) (sym t)) h.at }
 
 completed-kept : (s : Session) (j : ℕ) (m : Member) (ds : List Tag) → m.completed ≡ (view s j).completed → Completeds (view s) ds → Completeds (view (put s j m)) ds
 completed-kept s j m ds c h = record { at = put_all s j m (λ i x. get_or ds i Never ≡ or_never x.completed) (h.at j ∙ ap or_never (sym c)) h.at }
@@ -209,11 +213,6 @@ module _ (b : List ℕ) (laid : Laid b) (ordered : Ordered b) (mild : Mild b) (e
   rest-same o g k l t =
       ap resting (record_shown o g old k (omega (arith, t.long)) t.shows)
       ∙ ap (λ (x : Bool). both (confirmed (view o.session k).publication (view o.session k).asked) x) (empty-length (view o.session k).transit)
-
-  pub every-same : (f h : ℕ → Bool) (n : ℕ) → ((k : ℕ) → k < n → f k ≡ h k) → every f n ≡ every h n
-  unfolding every
-  every-same f h zero e = refl
-  every-same f h (suc n) e = ap₂ both (every-same f h n (λ k l. e k (omega arith))) (e n (omega arith))
 
   -- ---- bounds
   module _ (bs : List Tag) (right : bs ≡ bounds_in b es (members b)) where

@@ -1,6 +1,6 @@
 -- What a step has come to: the state, how many deliveries are sent, and the words of the buffer; and each pass over members.
 -- Assumes nothing.
-use Rattle.std.specs.Prelude.{ℕ, ◌+◌, ◌*◌, ◌≤◌, Bool, List, eqb, length, get_or, set}
+use Rattle.std.specs.Prelude.{ℕ, ◌+◌, ◌*◌, ◌≤◌, Bool, List, eqb, length, get_or, Option, Some, None}
 use Rattle.basis.specs.Choice.{pick, both}
 use Rattle.basis.specs.Parts.{replaced}
 use Rattle.tags.specs.declared.Tag.{Tag}
@@ -9,7 +9,7 @@ use Rattle.states.specs.declared.MemberState.{MemberState}
 use Rattle.states.specs.declared.State.{State}
 use Rattle.states.specs.declared.Delivery.{Delivery}
 use Rattle.states.specs.declared.Delivery.TheVariants.{Started, Grant, Idle, Suppress, Failed}
-use Rattle.states.specs.Records.{blank_record}
+use Rattle.states.specs.Records.{record_at, with_record}
 use Rattle.states.specs.Sessions.{or_never}
 use Rattle.states.specs.Rules.{due, revision_of}
 use Rattle.states.specs.Steps.{every, confirmed}
@@ -30,19 +30,6 @@ pub record Page : Type 0 where
 abbrev pub on : Progress → List ℕ → Page
 on p ws = record { progress = p; words = ws }
 
-abbrev pub record_at : State → ℕ → MemberState
-record_at s j = get_or s.members j blank_record
-
-abbrev pub with_record : State → ℕ → MemberState → State
-with_record s i m = record { members = set s.members i m; count = s.count; identity = s.identity; cause = s.cause; code = s.code }
-
-abbrev pub at : State → ℕ → Progress
-at s k = record { state = s; sent = k }
-
--- a member's turn stored
-abbrev pub storing : State → ℕ → Told → Progress
-storing s j r = at (with_record s j r.member) r.sent
-
 -- one delivery more, in the seven words after those sent
 abbrev pub posting : Page → Delivery → Page
 posting g d = record { progress = record { state = g.progress.state; sent = g.progress.sent + 1 }; words = replaced (7 * g.progress.sent) (words_of d) g.words }
@@ -51,11 +38,16 @@ posting g d = record { progress = record { state = g.progress.state; sent = g.pr
 abbrev pub telling : Page → ℕ → MemberState → Delivery → Page
 telling g i m d = record { progress = record { state = with_record g.progress.state i m; sent = g.progress.sent + 1 }; words = replaced (7 * g.progress.sent) (words_of d) g.words }
 
+-- what member j is told, if anything
+abbrev pub told : Page → ℕ → Option Told → Page
+told g j None = g
+told g j (Some t) = telling g j t.member t.delivery
+
 -- ---- grants
-unfoldable pub grant_to : Page → ℕ → MemberState → Tag → Page
+abbrev pub grant_to : Page → ℕ → MemberState → Tag → Page
 grant_to g j m h = pick (due m.publication (plainly m) h) (telling g j (granted_record m (revision_of m.publication) h) (Grant j (revision_of m.publication) h)) g
 
-unfoldable pub grant_at : List ℕ → List Tag → List Tag → Page → ℕ → Page
+abbrev pub grant_at : List ℕ → List Tag → List Tag → Page → ℕ → Page
 grant_at b es ds g j = grant_to g j (record_at g.progress.state j) (horizon_in b es ds (or_never (record_at g.progress.state j).granted) j)
 
 -- the member that downstream row k names
@@ -71,33 +63,30 @@ grants_in b es ds g i = over_rows (grant_by b es ds) (downstream_first b i) (dow
 abbrev pub resting : MemberState → Bool
 resting m = both (confirmed m.publication m.asked) (eqb m.held 0)
 
-unfoldable pub rest_at : State → ℕ → Bool
+abbrev pub rest_at : State → ℕ → Bool
 rest_at s k = resting (record_at s k)
 
-unfoldable pub joined_at : State → ℕ → Bool
-joined_at s k = (record_at s k).joined
-
-unfoldable pub stopped_at : State → ℕ → Bool
+abbrev pub stopped_at : State → ℕ → Bool
 stopped_at s k = (record_at s k).stopped
 
-unfoldable pub idle_to : Page → ℕ → MemberState → Page
+abbrev pub idle_to : Page → ℕ → MemberState → Page
 idle_to g j m = pick (idle_due (plainly m)) (telling g j (rested_record m (revision_of m.publication)) (Idle j (revision_of m.publication))) g
 
-unfoldable pub idle_at : Page → ℕ → Page
+abbrev pub idle_at : Page → ℕ → Page
 idle_at g j = idle_to g j (record_at g.progress.state j)
 
 -- ---- bounds
-unfoldable pub bound_to : Page → ℕ → MemberState → Tag → Page
+abbrev pub bound_to : Page → ℕ → MemberState → Tag → Page
 bound_to g j m t = pick (bound_due (plainly m) t) (telling g j (bounded_record m t) (Suppress j t)) g
 
-unfoldable pub bound_at : List Tag → Page → ℕ → Page
+abbrev pub bound_at : List Tag → Page → ℕ → Page
 bound_at bs g j = bound_to g j (record_at g.progress.state j) (get_or bs j Never)
 
 -- ---- to all
-unfoldable pub start_at : Page → ℕ → Page
+abbrev pub start_at : Page → ℕ → Page
 start_at g k = posting g (Started k)
 
-unfoldable pub fail_at : ℕ → ℕ → Page → ℕ → Page
+abbrev pub fail_at : ℕ → ℕ → Page → ℕ → Page
 fail_at cause code g k = posting g (Failed k cause code)
 
 -- ---- what follows a request

@@ -1,14 +1,18 @@
 // The passes over members that end a step: grants, Idle, bounds; and what goes to all.
 #![tactic(auto)]
 
-ghost use Rattle.std.specs.Prelude.{◌≡◌, ◌+◌, ◌*◌, ◌<◌, ◌≤◌, length};
-ghost use Rattle.basis.specs.Choice.{both};
+ghost use Rattle.std.specs.Prelude.{◌≡◌, ℕ, Option, ◌+◌, ◌*◌, ◌<◌, ◌≤◌, length};
+ghost use Rattle.states.specs.declared.Delivery.{Delivery};
+ghost use Rattle.states.specs.declared.MemberState.{MemberState};
+ghost use Rattle.states.specs.Records.{record_at};
 ghost use Rattle.states.specs.Steps.{every};
 ghost use Rattle.rows.specs.Rows.{Laid, members, downstream_first, downstream_count};
 ghost use Rattle.rows.specs.Loops.{over_rows, over_all};
 ghost use Rattle.members.specs.Rules.{Mild, AllLow};
-ghost use Rattle.passes.specs.Pages.{on, at, storing, record_at, posting, grant_to, grant_by, grants_in, settled_in, follow_in, Ready, resting, rest_at, joined_at, stopped_at, idle_to, idle_at, bound_to, bound_at, start_at, fail_at};
+ghost use Rattle.passes.specs.declared.Told.{Told};
+ghost use Rattle.passes.specs.Pages.{Page, on, told, posting, grant_to, grant_at, grant_by, grants_in, settled_in, follow_in, Ready, resting, rest_at, stopped_at, idle_to, idle_at, bound_to, bound_at, start_at, fail_at};
 
+use members::Times;
 use states::{Delivery, MemberState, State};
 use tags::Tag;
 
@@ -19,312 +23,235 @@ pub struct Progress {
     pub sent: usize,
 }
 
-// One member's turn: its record, and how many deliveries are sent.
+// What one member is told: its record after it, and what is sent to it.
 #[derive(Clone, Copy)]
 pub struct Told {
     pub member: MemberState,
-    pub sent: usize,
+    pub delivery: Delivery,
+}
+
+impl Progress {
+    // Sends one delivery more.
+    fn send(&mut self, out: &mut [u64], d: Delivery)
+        requires { 7 * self.old.sent + 7 ≤ length out.old }
+        ensures { on self.new out.new ≡ posting (on self.old out.old) d }
+    {
+        requests::send(out, self.sent, d);
+        self.sent += 1;
+    }
+
+    // Tells member j what it is told, if anything.
+    fn tell(&mut self, out: &mut [u64], j: usize, t: Option<Told>)
+        requires { (j < 32) × (7 * self.old.sent + 7 ≤ length out.old) }
+        ensures page { on self.new out.new ≡ told (on self.old out.old) j t }
+        ensures sent { self.new.sent ≤ self.old.sent + 1 }
+    {
+        if let Some(x) = t {
+            self.state.members[j] = x.member;
+            self.send(out, x.delivery);
+        }
+    }
 }
 
 // One delivery more.
-pub fn post(p: Progress, out: &mut [u64], d: Delivery) -> Progress
+pub fn post(mut p: Progress, out: &mut [u64], d: Delivery) -> Progress
     requires { 7 * p.sent + 7 ≤ length out.old }
     ensures { on result out.new ≡ posting (on p out.old) d }
 {
-    let k = p.sent;
-    requests::send(out, k, d);
-    let mut q = p;
-    q.sent = k + 1;
-    q
+    p.send(out, d);
+    p
 }
 
-// The grant of a horizon to member j with record m, if it is due, after k deliveries.
-pub fn grant_to(m: MemberState, h: Tag, out: &mut [u64], k: usize, j: usize) -> Told
-    requires { 7 * k + 7 ≤ length out.old }
-    ensures { (s : State) → record_at s j ≡ m → on (storing s j result) out.new ≡ grant_to (on (at s k) out.old) j m h }
+// The grant of a horizon to member j with record m, if it is due.
+fn grant_to(m: MemberState, h: Tag, j: usize) -> Option<Told>
+    ensures { (g : Page) → told g j result ≡ grant_to g j m h }
 {
-    if records::is_due(m, h) {
-        let publication = m.publication;
-        let revision = records::revision(publication);
-        let next = records::granted(m, revision, h);
-        requests::send(out, k, Delivery::Grant(j as u64, revision, h));
-        return Told {
-            member: next,
-            sent: k + 1,
-        };
+    if !records::is_due(m, h) {
+        return None;
     }
-    Told { member: m, sent: k }
+    let revision = records::revision(m.publication);
+    Some(Told {
+        member: records::granted(m, revision, h),
+        delivery: Delivery::Grant(j as u64, revision, h),
+    })
 }
 
-// Idle to member j with record m, if it is due, after k deliveries.
-pub fn idle_to(m: MemberState, out: &mut [u64], k: usize, j: usize) -> Told
-    requires { 7 * k + 7 ≤ length out.old }
-    ensures { (s : State) → record_at s j ≡ m → on (storing s j result) out.new ≡ idle_to (on (at s k) out.old) j m }
+// Idle to member j with record m, if it is due.
+fn idle_to(m: MemberState, j: usize) -> Option<Told>
+    ensures { (g : Page) → told g j result ≡ idle_to g j m }
 {
-    if records::idle_due(m) {
-        let publication = m.publication;
-        let revision = records::revision(publication);
-        let next = records::rested(m, revision);
-        requests::send(out, k, Delivery::Idle(j as u64, revision));
-        return Told {
-            member: next,
-            sent: k + 1,
-        };
+    if !records::idle_due(m) {
+        return None;
     }
-    Told { member: m, sent: k }
+    let revision = records::revision(m.publication);
+    Some(Told {
+        member: records::rested(m, revision),
+        delivery: Delivery::Idle(j as u64, revision),
+    })
 }
 
-// A bound to member j with record m, if it is due, after k deliveries.
-pub fn bound_to(m: MemberState, t: Tag, out: &mut [u64], k: usize, j: usize) -> Told
-    requires { 7 * k + 7 ≤ length out.old }
-    ensures { (s : State) → record_at s j ≡ m → on (storing s j result) out.new ≡ bound_to (on (at s k) out.old) j m t }
+// A bound to member j with record m, if it is due.
+fn bound_to(m: MemberState, t: Tag, j: usize) -> Option<Told>
+    ensures { (g : Page) → told g j result ≡ bound_to g j m t }
 {
-    if records::bound_due(m, t) {
-        let next = records::bounded(m, t);
-        requests::send(out, k, Delivery::Suppress(j as u64, t));
-        return Told {
-            member: next,
-            sent: k + 1,
-        };
+    if !records::bound_due(m, t) {
+        return None;
     }
-    Told { member: m, sent: k }
+    Some(Told {
+        member: records::bounded(m, t),
+        delivery: Delivery::Suppress(j as u64, t),
+    })
 }
 
-// The grants to the members downstream of i, in order: `earliest` and `completed` are the tags of all members.
-pub fn grant_below(
-    plan: &[u8],
-    earliest: [Tag; 32],
-    completed: [Tag; 32],
-    p: Progress,
-    out: &mut [u64],
-    i: usize,
-) -> Progress
-    requires { Laid plan.now × Mild plan.now × AllLow earliest × AllLow completed × (i < members plan.now) × (7 * (p.sent + downstream_count plan.now i) ≤ length out.old) }
-    ensures { on result out.new ≡ over_rows (grant_by plan.now earliest completed) (downstream_first plan.now i) (downstream_count plan.now i) (on p out.old) }
+// The grant to member j with record m, if it is due: `times` are the tags of all members.
+fn grant_due(plan: &[u8], times: &Times, m: MemberState, j: usize) -> Option<Told>
+    requires { Laid plan.now × Mild plan.now × AllLow times.now.earliest × AllLow times.now.completed × (j < members plan.now) }
+    ensures { (g : Page) → record_at g.progress.state j ≡ m → told g j result ≡ grant_at plan.now times.now.earliest times.now.completed g j }
+{
+    let h = members::horizon(plan, times, m.granted.unwrap_or(Tag::NEVER), j);
+    grant_to(m, h, j)
+}
+
+// The grants to the members downstream of i, in order: `times` are the tags of all members.
+#[tactic(auto, unfolding(rows::specs::Loops::over_rows, crate::specs::Pages::grant_by))]
+pub fn grant_below(plan: &[u8], times: &Times, p: &mut Progress, out: &mut [u64], i: usize)
+    requires { Laid plan.now × Mild plan.now × AllLow times.now.earliest × AllLow times.now.completed × (i < members plan.now) × (7 * (p.old.sent + downstream_count plan.now i) ≤ length out.old) }
+    ensures page { on p.new out.new ≡ over_rows (grant_by plan.now times.now.earliest times.now.completed) (downstream_first plan.now i) (downstream_count plan.now i) (on p.old out.old) }
+    ensures sent { p.new.sent ≤ p.old.sent + downstream_count plan.now i }
 {
     let first = rows::downstream_first(plan, i);
-    let count = rows::downstream_count(plan, i);
-    let mut state = p.state;
-    let mut sent = p.sent;
-    let mut c = 0;
-    while c < count {
+    for c in 0..rows::downstream_count(plan, i) {
         let j = views::downstream(plan, first + c);
-        let m = state.members[j];
-        let granted = m.granted;
-        let h = members::horizon(plan, earliest, completed, members::or_never(granted), j);
-        let told = grant_to(m, h, out, sent, j);
-        let next = told.member;
-        state.members[j] = next;
-        sent = told.sent;
-        c += 1;
+        let t = grant_due(plan, times, p.state.members[j], j);
+        p.tell(out, j, t);
     }
-    Progress {
-        state: state,
-        sent: sent,
+}
+
+// The turns of n members, ascending; `turn`: what a member with its record is told.
+#[tactic(auto, unfolding(rows::specs::Loops::over_all))]
+fn in_turn<F: Fn(MemberState, usize) -> Option<Told>>(
+    p: &mut Progress,
+    out: &mut [u64],
+    n: usize,
+    turn: F,
+)
+    requires callable { (m : MemberState) (j : ℕ) → j < n → F.pre turn m j }
+    requires room { (n ≤ 32) × (7 * (p.old.sent + n) ≤ length out.old) }
+    ensures { (f : Page → ℕ → Page) → ((g : Page) (j : ℕ) (t : Option Told) → j < n → F.post turn (record_at g.progress.state j) j t → told g j t ≡ f g j) → on p.new out.new ≡ over_all f n (on p.old out.old) }
+{
+    for j in 0..n {
+        let t = turn(p.state.members[j], j);
+        p.tell(out, j, t);
     }
 }
 
 // Idle to each of n members to whom it is due, ascending.
-pub fn idle_all(p: Progress, out: &mut [u64], n: usize) -> Progress
-    requires { (n ≤ 32) × (7 * (p.sent + n) ≤ length out.old) }
-    ensures { on result out.new ≡ over_all idle_at n (on p out.old) }
+pub fn idle_all(p: &mut Progress, out: &mut [u64], n: usize)
+    requires { (n ≤ 32) × (7 * (p.old.sent + n) ≤ length out.old) }
+    ensures { on p.new out.new ≡ over_all idle_at n (on p.old out.old) }
 {
-    let mut state = p.state;
-    let mut sent = p.sent;
-    let mut j = 0;
-    while j < n {
-        let m = state.members[j];
-        let told = idle_to(m, out, sent, j);
-        let next = told.member;
-        state.members[j] = next;
-        sent = told.sent;
-        j += 1;
-    }
-    Progress {
-        state: state,
-        sent: sent,
-    }
+    in_turn(p, out, n, idle_to);
 }
 
 // A bound to each of n members to whom it is due, ascending.
-pub fn bound_all(bounds: [Tag; 32], p: Progress, out: &mut [u64], n: usize) -> Progress
-    requires { (n ≤ 32) × (7 * (p.sent + n) ≤ length out.old) }
-    ensures { on result out.new ≡ over_all (bound_at bounds) n (on p out.old) }
+pub fn bound_all(bounds: &[Tag; 32], p: &mut Progress, out: &mut [u64], n: usize)
+    requires { (n ≤ 32) × (7 * (p.old.sent + n) ≤ length out.old) }
+    ensures { on p.new out.new ≡ over_all (bound_at bounds.now) n (on p.old out.old) }
 {
-    let mut state = p.state;
-    let mut sent = p.sent;
-    let mut j = 0;
-    while j < n {
-        let m = state.members[j];
-        let t = bounds[j];
-        let told = bound_to(m, t, out, sent, j);
-        let next = told.member;
-        state.members[j] = next;
-        sent = told.sent;
-        j += 1;
-    }
-    Progress {
-        state: state,
-        sent: sent,
-    }
+    in_turn(p, out, n, |m, j| bound_to(m, bounds[j], j));
 }
 
-// Started to member k.
-pub fn start_one(p: Progress, out: &mut [u64], k: usize) -> Progress
-    requires { 7 * p.sent + 7 ≤ length out.old }
-    ensures { on result out.new ≡ start_at (on p out.old) k }
+// One delivery to each of n members, ascending.
+#[tactic(auto, unfolding(rows::specs::Loops::over_all))]
+fn send_all<F: Fn(usize) -> Delivery>(p: &mut Progress, out: &mut [u64], n: usize, delivery: F)
+    requires callable { F.IsAlwaysCallable delivery }
+    requires room { (n ≤ 32) × (7 * (p.old.sent + n) ≤ length out.old) }
+    ensures { (f : Page → ℕ → Page) → ((g : Page) (k : ℕ) (d : Delivery) → k < n → F.post delivery k d → posting g d ≡ f g k) → on p.new out.new ≡ over_all f n (on p.old out.old) }
 {
-    post(p, out, Delivery::Started(k as u64))
+    for k in 0..n {
+        p.send(out, delivery(k));
+    }
 }
 
 // Started to n members, ascending.
-pub fn start_all(p: Progress, out: &mut [u64], n: usize) -> Progress
+pub fn start_all(mut p: Progress, out: &mut [u64], n: usize) -> Progress
     requires { (n ≤ 32) × (7 * (p.sent + n) ≤ length out.old) }
     ensures { on result out.new ≡ over_all start_at n (on p out.old) }
 {
-    let mut q = p;
-    let mut k = 0;
-    while k < n {
-        q = start_one(q, out, k);
-        k += 1;
-    }
-    q
-}
-
-// Failed to member k.
-pub fn fail_one(p: Progress, out: &mut [u64], cause: u64, code: u64, k: usize) -> Progress
-    requires { 7 * p.sent + 7 ≤ length out.old }
-    ensures { on result out.new ≡ fail_at cause code (on p out.old) k }
-{
-    post(p, out, Delivery::Failed(k as u64, cause, code))
+    send_all(&mut p, out, n, |k| Delivery::Started(k as u64));
+    p
 }
 
 // Failed to n members, ascending.
-pub fn fail_all(p: Progress, out: &mut [u64], cause: u64, code: u64, n: usize) -> Progress
+pub fn fail_all(mut p: Progress, out: &mut [u64], cause: u64, code: u64, n: usize) -> Progress
     requires { (n ≤ 32) × (7 * (p.sent + n) ≤ length out.old) }
     ensures { on result out.new ≡ over_all (fail_at cause code) n (on p out.old) }
 {
-    let mut q = p;
-    let mut k = 0;
-    while k < n {
-        q = fail_one(q, out, cause, code, k);
-        k += 1;
-    }
-    q
-}
-
-// Whether both hold.
-fn both_hold(a: bool, b: bool) -> bool
-    ensures { result ≡ both a b }
-{
-    if a { b } else { false }
+    send_all(&mut p, out, n, |k| Delivery::Failed(k as u64, cause, code));
+    p
 }
 
 // Whether a member has no event, confirmed that revision and holds no tag.
 pub fn rests(m: MemberState) -> bool
     ensures { result ≡ resting m }
 {
-    let publication = m.publication;
-    let asked = m.asked;
-    if records::is_confirmed(publication, asked) {
-        return m.held == 0;
-    }
-    false
+    records::is_confirmed(m.publication, m.asked) && m.held == 0
 }
 
 // Whether each of the first n members is at rest.
-pub fn all_rest(s: State, n: usize) -> bool
+pub fn all_rest(s: &State, n: usize) -> bool
     requires { n ≤ 32 }
-    ensures { result ≡ every (rest_at s) n }
+    ensures { result ≡ every (rest_at s.now) n }
 {
-    let mut all = true;
-    let mut k = 0;
-    while k < n {
-        let m = s.members[k];
-        all = both_hold(all, rests(m));
-        k += 1;
-    }
-    all
-}
-
-// Whether each of the first n members has joined.
-pub fn all_joined(s: State, n: usize) -> bool
-    requires { n ≤ 32 }
-    ensures { result ≡ every (joined_at s) n }
-{
-    let mut all = true;
-    let mut k = 0;
-    while k < n {
-        let m = s.members[k];
-        all = both_hold(all, m.joined);
-        k += 1;
-    }
-    all
+    s.members[..n].iter().all(|m| rests(*m))
 }
 
 // Whether each of the first n members has stopped.
-pub fn all_stopped(s: State, n: usize) -> bool
+pub fn all_stopped(s: &State, n: usize) -> bool
     requires { n ≤ 32 }
-    ensures { result ≡ every (stopped_at s) n }
+    ensures { result ≡ every (stopped_at s.now) n }
 {
-    let mut all = true;
-    let mut k = 0;
-    while k < n {
-        let m = s.members[k];
-        all = both_hold(all, m.stopped);
-        k += 1;
-    }
-    all
+    s.members[..n].iter().all(|m| m.stopped)
 }
 
 // The grants that a request of member i brings: to it, then to the members downstream of it.
-pub fn grants(
-    plan: &[u8],
-    earliest: [Tag; 32],
-    completed: [Tag; 32],
-    p: Progress,
-    out: &mut [u64],
-    i: usize,
-) -> Progress
-    requires { Laid plan.now × Mild plan.now × AllLow earliest × AllLow completed × (i < members plan.now) × (7 * (p.sent + 1 + downstream_count plan.now i) ≤ length out.old) }
-    ensures { on result out.new ≡ grants_in plan.now earliest completed (on p out.old) i }
+#[tactic(auto, unfolding(crate::specs::Pages::grants_in))]
+pub fn grants(plan: &[u8], times: &Times, p: &mut Progress, out: &mut [u64], i: usize)
+    requires { Laid plan.now × Mild plan.now × AllLow times.now.earliest × AllLow times.now.completed × (i < members plan.now) × (7 * (p.old.sent + 1 + downstream_count plan.now i) ≤ length out.old) }
+    ensures page { on p.new out.new ≡ grants_in plan.now times.now.earliest times.now.completed (on p.old out.old) i }
+    ensures sent { p.new.sent ≤ p.old.sent + 1 + downstream_count plan.now i }
 {
-    let mut state = p.state;
-    let m = state.members[i];
-    let granted = m.granted;
-    let h = members::horizon(plan, earliest, completed, members::or_never(granted), i);
-    let told = grant_to(m, h, out, p.sent, i);
-    let next = told.member;
-    state.members[i] = next;
-    let q = Progress {
-        state: state,
-        sent: told.sent,
-    };
-    grant_below(plan, earliest, completed, q, out, i)
+    let t = grant_due(plan, times, p.state.members[i], i);
+    p.tell(out, i, t);
+    grant_below(plan, times, p, out, i);
 }
 
 // Idle where all n members are at rest, else the bounds.
-pub fn settle(bounds: [Tag; 32], p: Progress, out: &mut [u64], n: usize) -> Progress
-    requires { (n ≤ 32) × (7 * (p.sent + n) ≤ length out.old) }
-    ensures { on result out.new ≡ settled_in bounds n (on p out.old) }
+#[tactic(auto, unfolding(crate::specs::Pages::settled_in))]
+pub fn settle(bounds: &[Tag; 32], p: &mut Progress, out: &mut [u64], n: usize)
+    requires { (n ≤ 32) × (7 * (p.old.sent + n) ≤ length out.old) }
+    ensures { on p.new out.new ≡ settled_in bounds.now n (on p.old out.old) }
 {
-    let state = p.state;
-    if all_rest(state, n) {
-        return idle_all(p, out, n);
+    if all_rest(&p.state, n) {
+        idle_all(p, out, n);
+    } else {
+        bound_all(bounds, p, out, n);
     }
-    bound_all(bounds, p, out, n)
 }
 
 // What follows a request of member i: grants, then Idle, then bounds.
-pub fn follow(plan: &[u8], p: Progress, slab: &[u64], out: &mut [u64], i: usize) -> Progress
+#[tactic(auto, unfolding(crate::specs::Pages::follow_in, crate::specs::Pages::earliests_in, crate::specs::Pages::completeds_in))]
+pub fn follow(plan: &[u8], mut p: Progress, slab: &[u64], out: &mut [u64], i: usize) -> Progress
     requires { Laid plan.now × Mild plan.now × (i < members plan.now) × (downstream_count plan.now i < members plan.now) × Ready p.state slab.now (members plan.now) × (7 * (p.sent + members plan.now + members plan.now) ≤ length out.old) }
     ensures { on result out.new ≡ follow_in plan.now slab.now (on p out.old) i }
 {
     let n = rows::members(plan);
-    let state = p.state;
-    let earliest = members::earliest_all(state, slab, n);
-    let completed = members::completed_all(state, n);
-    let bounds = members::bounds_all(plan, earliest);
-    let q = grants(plan, earliest, completed, p, out, i);
-    settle(bounds, q, out, n)
+    let times = Times {
+        earliest: members::earliest_all(&p.state, slab, n),
+        completed: members::completed_all(&p.state, n),
+    };
+    let bounds = members::bounds_all(plan, &times.earliest);
+    grants(plan, &times, &mut p, out, i);
+    settle(&bounds, &mut p, out, n);
+    p
 }

@@ -10,12 +10,9 @@ use borrow.Author.Tests.{eq-eqb, ne_eqb, ltb-false, not-false}
 use lib.Dec.{ltb, eqb}
 use lib.ListN.{length}
 use Rattle.basis.specs.Choice.{pick, not}
-use Rattle.plans.specs.declared.Plan.{Plan}
-use Rattle.plans.specs.declared.Refusal.{Refusal}
-use Rattle.plans.specs.declared.Reading.{Reading}
+use Rattle.plans.specs.Numbers.{Reason}
 use Rattle.plans.specs.Rows.{header, member_limit, edge_limit, version, member_count, edge_count, edges_from, end_of}
 use Rattle.plans.specs.Refusals.{giving, or_else, first_of, framed, member_fault, member_repeat, edge_fault, rows_refused, refusal_of}
-use Rattle.plans.specs.Reading.{plan_in, blank_plan, reading_of}
 use Rattle.plans.proofs.Faults.{framed-length}
 
 pub record Accepted (b : List ℕ) : Type 0 where
@@ -26,11 +23,11 @@ pub record Accepted (b : List ℕ) : Type 0 where
   pub repeats : (first_of (member_repeat b) (member_count b)).number ≡ 0
   pub edges : (first_of (edge_fault (member_count b) (edges_from (member_count b)) b) (edge_count b)).number ≡ 0
 
-pub past : (t : Bool) (q x y : ℕ) (r : Refusal) → (pick t (giving (suc q) x y) r).number ≡ 0 → (t ≡ false) × (r.number ≡ 0)
+pub past : (t : Bool) (q x y : ℕ) (r : Reason) → (pick t (giving (suc q) x y) r).number ≡ 0 → (t ≡ false) × (r.number ≡ 0)
 past true q x y r e = absurd (omega arith)
 past false q x y r e = (refl, e)
 
-pub or_else_lem : (r s : Refusal) → (or_else r s).number ≡ 0 → (r.number ≡ 0) × (s.number ≡ 0)
+pub or_else_lem : (r s : Reason) → (or_else r s).number ≡ 0 → (r.number ≡ 0) × (s.number ≡ 0)
 or_else_lem r s e = go (ℕ_discrete r.number 0)
   where
     go : Dec (r.number ≡ 0) → (r.number ≡ 0) × (s.number ≡ 0)
@@ -55,14 +52,3 @@ accepted b z =
       repeats = seven.0;
       edges = seven.1;
     }
-
--- ---- the outcome
-pub outcome-refused : (b : List ℕ) (r : Refusal) (p : Plan) → r ≡ refusal_of b → (r.number ≡ 0 → ⊥) → p ≡ blank_plan
-    → ◌≡◌ {A = Reading} (record { refusal = r; plan = p }) (reading_of b)
-unfolding reading_of
-outcome-refused b r p e n q = rw (← e, q, ne_eqb r.number 0 n) refl
-
-pub outcome-taken : (b : List ℕ) (r : Refusal) (p : Plan) (n e : ℕ) → r ≡ refusal_of b → r.number ≡ 0 → n ≡ member_count b → e ≡ edge_count b → p ≡ plan_in n e b
-    → ◌≡◌ {A = Reading} (record { refusal = r; plan = p }) (reading_of b)
-unfolding reading_of
-outcome-taken b r p n e q z en ee pq = rw (← q, pq, ← en, ← ee, eq-eqb r.number 0 z) refl

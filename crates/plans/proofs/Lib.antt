@@ -2,10 +2,11 @@ pub mod Scans
 pub mod Faults
 pub mod Inserted
 pub mod Sorting
-pub mod Filling
+pub mod Places
 pub mod Plans
 pub mod Accepted
 pub mod Comparisons
 pub mod Ascending
-pub mod Known
+pub mod Declared
 pub mod Right
+pub mod Reasons

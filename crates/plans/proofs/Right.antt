@@ -1,15 +1,15 @@
 -- What is read fits, and means what 01 says.
 -- Assumes nothing.
-use Prim.Native.Nat.{ℕ, zero, suc, ◌-◌, ◌<◌, ◌≤◌}
+use Prim.Native.Nat.{ℕ, ◌-◌, ◌<◌, ◌≤◌}
 use mathlib.Core.Bool.{true}
 use mathlib.Core.Path.{◌≡◌, refl, ◌∙◌}
-use mathlib.Core.List.{List, [], ◌∷◌, map}
-use native.Mathlib.Nat.{le_of_suc-le-suc}
+use mathlib.Core.List.{List, ◌∷◌, map}
 use native.Mathlib.Decide.{ℕ_discrete}
 use native.Mathlib.Omega.{arith}
 use borrow.Author.Tests.{eq-eqb, ne_eqb, ltb-true}
 use lib.Dec.{eqb}
 use lib.ListN.{length, get_or, replicate, length-append, length-replicate, length-map, get_or-append, get_or-map}
+use Rattle.std.proofs.lemmas.List.{get_or_default}
 use Rattle.basis.specs.Choice.{pick}
 use Rattle.plans.specs.declared.Edge.{Edge}
 use Rattle.plans.specs.Rows.{member_count, edge_count, member_at, member_id, edge_at}
@@ -23,7 +23,7 @@ use Rattle.plans.proofs.Ascending.{Has, here, there, has-map, has-ordered, order
 use Rattle.plans.proofs.Comparisons.{members-compare, edges-compare}
 use Rattle.plans.proofs.Scans.{clean_all}
 use Rattle.plans.proofs.Accepted.{Accepted, accepted}
-use Rattle.plans.proofs.Known.{among_true, capacity-small, members-apart, edges-apart, ends-declared}
+use Rattle.plans.proofs.Declared.{among_true, capacity-small, members-apart, edges-apart, ends-declared}
 
 all_map : {A : Type 0} (P : ℕ → Type 0) (f : A → ℕ) {l : List A} → All (λ x. P (f x)) l → All P (map f l)
 all_map P f none = none
@@ -36,16 +36,11 @@ length-padded k l h = omega (arith, length-append l (replicate (k - length l) 0)
 padded-at : (k : ℕ) (l : List ℕ) (i : ℕ) → i < length l → get_or (padded k l) i 0 ≡ get_or l i 0
 padded-at k l i h = get_or-append l (replicate (k - length l) 0) 0 i h
 
-get_d_any : {A : Type 0} (l : List A) (i : ℕ) (d e : A) → i < length l → get_or l i d ≡ get_or l i e
-get_d_any [] i d e h = absurd (omega arith)
-get_d_any (x ∷ xs) zero d e h = refl
-get_d_any (x ∷ xs) (suc i) d e h = get_d_any xs i d e (le_of_suc-le-suc h)
-
 -- a padded list of what rows say, at a row
 field_at : {A : Type 0} (k : ℕ) (f : A → ℕ) (l : List A) (i : ℕ) (d : A) → i < length l → get_or (padded k (map f l)) i 0 ≡ f (get_or l i d)
 field_at k f l i d h =
     let m : i < length (map f l) = omega (arith, length-map l f) in
-    padded-at k (map f l) i m ∙ get_d_any (map f l) i 0 (f d) m ∙ get_or-map f l i d
+    padded-at k (map f l) i m ∙ get_or_default (map f l) i 0 (f d) m ∙ get_or-map f l i d
 
 -- ---- the place of an id that is there
 pub placed : (x : ℕ) {l : List ℕ} → Has x l → (place x l < length l) × (get_or l (place x l) 0 ≡ x)

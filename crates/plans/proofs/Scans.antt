@@ -1,9 +1,13 @@
 -- Looking through rows from the front.
 -- Assumes nothing.
-use Prim.Native.Nat.{ℕ, zero, suc, ◌+◌, ◌-◌, ◌<◌}
+use Prim.Native.Nat.{ℕ, zero, suc, ◌+◌, ◌<◌}
 use mathlib.Core.Bool.{Bool, true, false}
-use mathlib.Core.Path.{◌≡◌, refl}
-use mathlib.Core.List.{List}
+use mathlib.Core.Path.{◌≡◌, refl, sym, ap, ◌∙◌}
+use native.Mathlib.Nat.{add-zero, zero-add}
+use Rattle.std.proofs.Common.{◌||◌}
+use Rattle.std.specs.List.{range_with_len, list_any}
+use Rattle.std.proofs.lemmas.List.Folds.{list_any-append}
+use mathlib.Core.List.{List, [], ◌∷◌, ◌++◌}
 use native.Mathlib.Numerals.{add-one}
 use native.Mathlib.Nat.{eq-or-lt_of_le, le_of_suc-le-suc}
 use native.Mathlib.Omega.{arith}
@@ -13,7 +17,7 @@ use native.Mathlib.Decide.{ℕ_discrete}
 use lib.Dec.{ltb, eqb}
 use lib.ListN.{length}
 use Rattle.basis.specs.Choice.{pick, not, either}
-use Rattle.plans.specs.declared.Refusal.{Refusal}
+use Rattle.plans.specs.Numbers.{Reason}
 use Rattle.plans.specs.Rows.{header, member_limit, edge_limit, capacity_limit, version, member_count, edge_count, edges_from, member_at, edge_from, member_id, edge_id}
 use Rattle.plans.specs.Refusals.{giving, none, or_else, first_of, among, framed, member_fault, member_repeat, edge_fault, rows_refused, refusal_of}
 
@@ -21,29 +25,6 @@ use Rattle.plans.specs.Refusals.{giving, none, or_else, first_of, among, framed,
 either-right : (b : Bool) → either b true ≡ true
 either-right true = refl
 either-right false = refl
-
-pub among_none : (id : ℕ → ℕ) (x : ℕ) → among id 0 x ≡ false
-unfolding among
-among_none id x = refl
-
-either-none : (b : Bool) → either b false ≡ b
-either-none true = refl
-either-none false = refl
-
--- a row that has another id leaves it to those before
-pub among-pass : (id : ℕ → ℕ) (k x : ℕ) → 0 < k → (id (k - 1) ≡ x → ⊥) → among id k x ≡ among id (k - 1) x
-unfolding among
-among-pass id zero x l h = absurd (omega arith)
-among-pass id (suc k) x l h =
-    let p : suc k - 1 ≡ k = omega arith in
-    rw (p, ne_eqb (id k) x (rw p at h)) (either-none (among id k x))
-
-pub among-here : (id : ℕ → ℕ) (k x : ℕ) → 0 < k → id (k - 1) ≡ x → among id k x ≡ true
-unfolding among
-among-here id zero x l h = absurd (omega arith)
-among-here id (suc k) x l h =
-    let p : suc k - 1 ≡ k = omega arith in
-    rw (eq-eqb (id k) x (rw p at h)) (either-right (among id k x))
 
 -- a row that has x answers for every count past it
 pub among-met : (id : ℕ → ℕ) (k j x : ℕ) → j < k → id j ≡ x → among id k x ≡ true
@@ -55,15 +36,34 @@ among-met id (suc k) j x l e =
     (λ h. simp (among-met id k j x h e))
     (eq-or-lt_of_le (le_of_suc-le-suc l))
 
+-- a look through the rows from the front
+range-more : (a n : ℕ) → range_with_len a (suc n) ≡ range_with_len a n ++ (a + n) ∷ []
+range-more a zero = ap (λ (k : ℕ). k ∷ []) (sym (add-zero a))
+range-more a (suc n) = ap (λ (l : List ℕ). a ∷ l) (range-more (a + 1) n ∙ ap (λ (k : ℕ). range_with_len (a + 1) n ++ k ∷ []) (omega arith))
+
+pub among-listed : (id : ℕ → ℕ) (k x : ℕ) → list_any (λ j. eqb (id j) x) (range_with_len 0 k) ≡ among id k x
+unfolding among
+among-listed id zero x = refl
+among-listed id (suc k) x =
+    ap (list_any (λ j. eqb (id j) x)) (range-more 0 k ∙ ap (λ (j : ℕ). range_with_len 0 k ++ j ∷ []) (zero-add k))
+    ∙ list_any-append (λ j. eqb (id j) x) (range_with_len 0 k) (k ∷ [])
+    ∙ ap (λ (b : Bool). b || (eqb (id k) x || false)) (among-listed id k x)
+    ∙ either-or (among id k x) (eqb (id k) x)
+  where
+    either-or : (a b : Bool) → (a || (b || false)) ≡ either a b
+    either-or true b = refl
+    either-or false true = refl
+    either-or false false = refl
+
 -- ---- the first refusal
 -- number 0 gives nothing
-pub record Clean (r : Refusal) : Type 0 where
+pub record Clean (r : Reason) : Type 0 where
   pub clean : r.number ≡ 0 → r ≡ none
 
 pub clean-none : Clean none
 clean-none = record { clean = λ e. refl }
 
-pub clean-pick : (b : Bool) (q x y : ℕ) (r : Refusal) → Clean r → Clean (pick b (giving (suc q) x y) r)
+pub clean-pick : (b : Bool) (q x y : ℕ) (r : Reason) → Clean r → Clean (pick b (giving (suc q) x y) r)
 clean-pick true q x y r c = record { clean = λ e. absurd (omega arith) }
 clean-pick false q x y r c = c
 
@@ -83,35 +83,22 @@ clean-edge n at b k =
     (clean-pick (not (among (member_id b) n (edge_from at b k).source)) 6 (edge_id at b k) (edge_from at b k).source _
     (clean-pick (not (among (member_id b) n (edge_from at b k).target)) 6 (edge_id at b k) (edge_from at b k).target none clean-none))
 
-pub first-none : (row : ℕ → Refusal) → first_of row 0 ≡ none
+pub first-none : (row : ℕ → Reason) → first_of row 0 ≡ none
 unfolding first_of
 first-none row = refl
 
-pub first-pass : (row : ℕ → Refusal) (k : ℕ) → first_of row k ≡ none → Clean (row k) → (row k).number ≡ 0 → first_of row (k + 1) ≡ none
+pub first-pass : (row : ℕ → Reason) (k : ℕ) → first_of row k ≡ none → row k ≡ none → first_of row (k + 1) ≡ none
 unfolding first_of
-first-pass row k e c z = rw add-one (simp (e, c.clean z))
+first-pass row k e z = rw add-one (simp (e, z))
 
-or_else_stop : (r s : Refusal) → (r.number ≡ 0 → ⊥) → or_else r s ≡ r
-or_else_stop r s h = simp (ne_eqb r.number 0 h)
-
--- the first row refused answers for every count past it
-pub first-met : (row : ℕ → Refusal) (n k : ℕ) → k < n → first_of row k ≡ none → ((row k).number ≡ 0 → ⊥) → first_of row n ≡ row k
-unfolding first_of
-first-met row zero k l e h = absurd (omega arith)
-first-met row (suc n) k l e h =
-    ⊎_elim
-    (λ q. rw (← q) (simp e))
-    (λ m. let i = first-met row n k m e h in rw i (or_else_stop (row k) (row n) h))
-    (eq-or-lt_of_le (le_of_suc-le-suc l))
-
-clean-or : (r s : Refusal) → Clean r → Clean s → Clean (or_else r s)
+clean-or : (r s : Reason) → Clean r → Clean s → Clean (or_else r s)
 clean-or r s c d = go (ℕ_discrete r.number 0)
   where
     go : Dec (r.number ≡ 0) → Clean (pick (eqb r.number 0) s r)
     go (yes z) = rw (eq-eqb r.number 0 z) d
     go (no n) = rw (ne_eqb r.number 0 n) c
 
-clean-first : (row : ℕ → Refusal) → ((k : ℕ) → Clean (row k)) → (n : ℕ) → Clean (first_of row n)
+clean-first : (row : ℕ → Reason) → ((k : ℕ) → Clean (row k)) → (n : ℕ) → Clean (first_of row n)
 unfolding first_of
 clean-first row c zero = clean-none
 clean-first row c (suc n) = clean-or (first_of row n) (row n) (clean-first row c n) (c n)

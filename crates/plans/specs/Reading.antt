@@ -1,14 +1,15 @@
 -- The outcome of reading plan bytes.
 -- Assumes nothing.
-use Rattle.std.specs.Prelude.{ℕ, ◌-◌, List, [], ◌++◌, map, eqb, length, replicate}
+use Rattle.std.specs.Prelude.{ℕ, ◌-◌, List, [], ◌++◌, map, eqb, length, replicate, Result, Ok, Err}
 use Rattle.basis.specs.Choice.{pick}
 use Rattle.plans.specs.Rows.{member_limit, edge_limit, member_count, edge_count, edges_from, member_at, edge_from}
+use Rattle.plans.specs.Numbers.{Reason, no_reason, reason_of}
 use Rattle.plans.specs.Refusals.{refusal_of}
 use Rattle.plans.specs.Order.{member_before, edge_before, ordered, place}
 use Rattle.plans.specs.declared.Member.{Member}
 use Rattle.plans.specs.declared.Edge.{Edge}
 use Rattle.plans.specs.declared.Plan.{Plan}
-use Rattle.plans.specs.declared.Reading.{Reading}
+use Rattle.plans.specs.declared.Refusal.{Refusal}
 
 -- Members ascending by id: the first n rows
 abbrev pub members_to : ℕ → List ℕ → List Member
@@ -55,7 +56,16 @@ edges_of b = edges_to (edges_from (member_count b)) (edge_count b) b
 abbrev pub blank_plan : Plan
 blank_plan = plan_from 0 0 [] []
 
+-- The outcome of reading plan bytes: a refusal, or none and the plan.
+pub record Reading : Type 0 where
+  pub refusal : Reason
+  pub plan : Plan
+
 -- a refusal and a blank plan, or none and the plan
+abbrev pub reading : Result Plan Refusal → Reading
+reading (Ok p) = record { refusal = no_reason; plan = p }
+reading (Err r) = record { refusal = reason_of r; plan = blank_plan }
+
 unfoldable pub reading_of : List ℕ → Reading
 reading_of b =
     record {

@@ -53,13 +53,16 @@ abbrev pub end_of : ℕ → ℕ → ℕ
 end_of n e = edges_from n + edge_row * e
 
 -- Member row: id u64, in-transit capacity u32, zero u32.
-unfoldable pub member_at : List ℕ → ℕ → Member
-member_at b k =
+abbrev pub member_from : ℕ → List ℕ → ℕ → Member
+member_from at b k =
     record {
-      id = number_at 8 (header + member_row * k) b;
-      capacity = number_at 4 (header + member_row * k + 8) b;
-      zero = number_at 4 (header + member_row * k + 12) b;
+      id = number_at 8 (at + member_row * k) b;
+      capacity = number_at 4 (at + member_row * k + 8) b;
+      zero = number_at 4 (at + member_row * k + 12) b;
     }
+
+unfoldable pub member_at : List ℕ → ℕ → Member
+member_at b k = member_from header b k
 
 -- Edge row: id, source id, target id, delay, u64 each.
 unfoldable pub edge_from : ℕ → List ℕ → ℕ → Edge

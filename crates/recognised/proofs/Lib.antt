@@ -14,3 +14,4 @@ pub mod Readback
 pub mod Answers
 pub mod Main
 pub mod Usable
+pub mod Faults

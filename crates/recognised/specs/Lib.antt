@@ -4,5 +4,6 @@ pub mod Sits
 pub mod Facts
 pub mod Walks
 pub mod Recognised
+pub mod Faults
 pub mod Usable
 pub mod Words

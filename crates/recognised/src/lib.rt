@@ -6,6 +6,7 @@ ghost use Rattle.std.specs.Prelude.{◌≡◌, ℕ, ◌<◌};
 ghost use Rattle.rows.specs.Rows.{members, edges};
 ghost use Rattle.recognised.specs.Facts.{MemberRight, Routed};
 ghost use Rattle.recognised.specs.Recognised.{refusal_in};
+ghost use Rattle.recognised.specs.Faults.{fault_no, verdict};
 
 mod claims;
 mod frame;
@@ -17,56 +18,68 @@ use crate::claims::{claim, minima_right, short_edges, short_rows};
 use crate::frame::{edges_right, header, members_right};
 use crate::lists::directs_right;
 use crate::plain::{LOST, briefly};
+use delays::Matrix;
 
-// Numbers of refusal.
-const NO_IMAGE: u64 = 11;
-
-const TOO_LONG: u64 = 12;
-
-// The refusal of bytes whose header, members and edges are right.
-fn judge(plan: &[u8], n: usize, e: usize) -> u64
-    requires { Routed plan.now × ((i : ℕ) → i < n → MemberRight plan.now i) × (n ≡ members plan.now) × (e ≡ edges plan.now) }
-    ensures { result ≡ refusal_in plan.now }
-{
-    if !directs_right(plan, n, e) {
-        return NO_IMAGE;
-    }
-    let mut kind = [2u8; 1024];
-    let mut value = [LOST; 1024];
-    if !claim(plan, n, &mut kind, &mut value) {
-        return NO_IMAGE;
-    }
-    let short = briefly(plan, e);
-    if !minima_right(plan, &kind, &value, n, e, short) {
-        return NO_IMAGE;
-    }
-    if short {
-        return 0;
-    }
-    if !short_edges(plan, e) {
-        return TOO_LONG;
-    }
-    if !short_rows(&kind, &value, n) {
-        return TOO_LONG;
-    }
-    0
+// Why bytes are refused.
+#[derive(Clone, Copy, Debug, PartialEq, Eq)]
+pub enum Fault {
+    // they are no compiled plan
+    NoImage,
+    // an edge or a minimum delay is above 2^63-1
+    TooLong,
 }
 
-// 0 where the bytes are the compiled plan of their own members and edges, with no edge or minimum delay above 2^63-1;
-// 11 where they are no compiled plan, 12 where a delay is too long.
-pub fn recognise(plan: &[u8]) -> u64
-    ensures { result ≡ refusal_in plan.now }
+impl Fault {
+    // The number of the refusal.
+    pub fn number(self) -> u64
+        ensures { result ≡ fault_no self }
+    {
+        match self {
+            Fault::NoImage => 11,
+            Fault::TooLong => 12,
+        }
+    }
+}
+
+// The refusal of bytes whose header, members and edges are right.
+fn judge(plan: &[u8], n: usize, e: usize) -> Result<(), Fault>
+    requires { Routed plan.now × ((i : ℕ) → i < n → MemberRight plan.now i) × (n ≡ members plan.now) × (e ≡ edges plan.now) }
+    ensures { verdict result ≡ refusal_in plan.now }
+{
+    if !directs_right(plan, n, e) {
+        return Err(Fault::NoImage);
+    }
+    let mut claimed = Matrix {
+        kinds: [2; 1024],
+        values: [LOST; 1024],
+    };
+    if !claim(plan, n, &mut claimed) {
+        return Err(Fault::NoImage);
+    }
+    let short = briefly(plan, e);
+    if !minima_right(plan, &claimed, n, e, short) {
+        return Err(Fault::NoImage);
+    }
+    if short {
+        return Ok(());
+    }
+    if !short_edges(plan, e) || !short_rows(&claimed, n) {
+        return Err(Fault::TooLong);
+    }
+    Ok(())
+}
+
+// Ok where the bytes are the compiled plan of their own members and edges, with no edge or minimum delay above 2^63-1.
+pub fn recognise(plan: &[u8]) -> Result<(), Fault>
+    ensures { verdict result ≡ refusal_in plan.now }
 {
     if !header(plan) {
-        return NO_IMAGE;
+        return Err(Fault::NoImage);
     }
     let n = rows::number(plan, 4);
     let e = rows::number(plan, 8);
-    if !members_right(plan, n) {
-        return NO_IMAGE;
-    }
-    if !edges_right(plan, n, e) {
-        return NO_IMAGE;
+    if !members_right(plan, n) || !edges_right(plan, n, e) {
+        return Err(Fault::NoImage);
     }
     judge(plan, n, e)
 }

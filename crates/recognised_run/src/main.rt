@@ -6,29 +6,13 @@ ghost use Rattle.std.specs.Prelude.{◌<◌, ◌≤◌, length, IfOk};
 use std::io;
 use std::io::Read;
 
-fn show(rt: &impl Print, refusal: u64) -> io::Result<()> {
-    if refusal == 0 {
-        print!(rt; "0\n")?;
-    } else {
-        if refusal == 11 {
-            print!(rt; "11\n")?;
-        } else {
-            print!(rt; "12\n")?;
-        }
-    }
-    Ok(())
-}
-
 // Judges the string at a place, and answers where the next one starts, the end if there is none.
 fn next(rt: &impl Print, bytes: &[u8], at: usize) -> io::Result<usize>
     requires { at < length bytes.now }
     ensures { IfOk result (λ next. (at < next) × (next ≤ length bytes.now)) }
 {
     let n = bytes.len();
-    if n < 4 {
-        return Ok(n);
-    }
-    if n - 4 < at {
+    if n < 4 || n - 4 < at {
         return Ok(n);
     }
     let long = rows::number(bytes, at);
@@ -37,7 +21,11 @@ fn next(rt: &impl Print, bytes: &[u8], at: usize) -> io::Result<usize>
         return Ok(n);
     }
     let to = from + long;
-    show(rt, recognised::recognise(&bytes[from..to]))?;
+    let refusal = match recognised::recognise(&bytes[from..to]) {
+        Ok(()) => 0,
+        Err(f) => f.number(),
+    };
+    println!(rt; "{refusal}")?;
     Ok(to)
 }
 

@@ -11,40 +11,28 @@ use borrow.Author.Tests.{ltb-false}
 use Rattle.basis.specs.Choice.{pick}
 use Rattle.tags.specs.declared.Tag.{Tag}
 use Rattle.tags.specs.declared.Tag.TheVariants.{Never, Finite, Forever}
-use Rattle.tags.specs.declared.Told.{Told}
-use Rattle.tags.specs.declared.Told.TheVariants.{Is, Unknown}
+use Rattle.std.specs.Prelude.{Option, Some, None}
 use Rattle.tags.specs.Tags.{top, told_by}
 use Rattle.tags.proofs.Laws.{Small}
 use Rattle.transit.specs.Tags.{limit}
-use Rattle.states.specs.declared.Next.{Next}
-use Rattle.states.specs.declared.Next.TheVariants.{Quiet, Event}
 use Rattle.states.specs.declared.Request.{Request}
 use Rattle.states.specs.declared.Request.TheVariants.{Hello, Publish, Complete, Payload, ConfirmIdle, Stop, Abort}
 use Rattle.states.specs.Formed.{Fits, FitsRequest}
 use Rattle.states.proofs.Laws.{picked}
-use Rattle.requests.specs.declared.Spoken.{Spoken}
-use Rattle.requests.specs.declared.Spoken.TheVariants.{Nothing, Tagged, Garbled}
-use Rattle.requests.specs.declared.Form.{Form}
-use Rattle.requests.specs.declared.Form.TheVariants.{Asks, Malformed}
-use Rattle.requests.specs.Asking.{heard, spoken_by, bare_of, next_of, publish_of, tag_of, complete_of, payload_of, numberless_of, form_of, far_tag, far_of, refused, judged_by, asked_by}
+use Rattle.requests.specs.Asking.{Spoken, Form, heard, spoken_by, bare_of, next_of, publish_of, tag_of, complete_of, payload_of, numberless_of, form_of, far_tag, far_of, refused, judged_by, asked_by}
 
 -- ---- a microstep is one of the words
-abbrev SmallTold : Told → Type 0
-SmallTold (Is t) = Small t
-SmallTold Unknown = Unit {0}
+abbrev SmallOption : Option Tag → Type 0
+SmallOption None = Unit {0}
+SmallOption (Some t) = Small t
 
 abbrev SmallSpoken : Spoken → Type 0
-SmallSpoken Nothing = Unit {0}
-SmallSpoken (Tagged t) = Small t
-SmallSpoken Garbled = Unit {0}
-
-abbrev SmallNext : Next → Type 0
-SmallNext Quiet = Unit {0}
-SmallNext (Event t) = Small t
+SmallSpoken None = Unit {0}
+SmallSpoken (Some e) = SmallOption e
 
 abbrev SmallRequest : Request → Type 0
 SmallRequest (Hello d) = Unit {0}
-SmallRequest (Publish r e) = SmallNext e
+SmallRequest (Publish r e) = SmallOption e
 SmallRequest (Complete t) = Small t
 SmallRequest (Payload k t h) = Small t
 SmallRequest (ConfirmIdle r) = Unit {0}
@@ -52,17 +40,17 @@ SmallRequest Stop = Unit {0}
 SmallRequest (Abort c) = Unit {0}
 
 abbrev SmallForm : Form → Type 0
-SmallForm (Asks q) = SmallRequest q
-SmallForm Malformed = Unit {0}
+SmallForm None = Unit {0}
+SmallForm (Some q) = SmallRequest q
 
-told-small : (c o m : ℕ) → m ≤ top → SmallTold (told_by c o m)
+told-small : (c o m : ℕ) → m ≤ top → SmallOption (told_by c o m)
 told-small c o m h =
-    picked SmallTold (eqb c 1) _ _ h
-    (picked SmallTold (eqb o 0) _ _ (picked SmallTold (eqb m 0) _ _ (picked SmallTold (eqb c 0) _ _ tt (picked SmallTold (eqb c 2) _ _ tt tt)) tt) tt)
+    picked SmallOption (eqb c 1) _ _ h
+    (picked SmallOption (eqb o 0) _ _ (picked SmallOption (eqb m 0) _ _ (picked SmallOption (eqb c 0) _ _ tt (picked SmallOption (eqb c 2) _ _ tt tt)) tt) tt)
 
-heard-small : (t : Told) → SmallTold t → SmallSpoken (heard t)
-heard-small (Is t) h = h
-heard-small Unknown h = tt
+heard-small : (t : Option Tag) → SmallOption t → SmallSpoken (heard t)
+heard-small None h = tt
+heard-small (Some t) h = h
 
 spoken_small : (c o m : ℕ) → m ≤ top → SmallSpoken (spoken_by c o m)
 unfolding spoken_by
@@ -70,19 +58,18 @@ spoken_small c o m h =
     picked SmallSpoken (eqb c 3) _ _ (picked SmallSpoken (eqb o 0) _ _ (picked SmallSpoken (eqb m 0) _ _ tt tt) tt) (heard-small (told_by c o m) (told-small c o m h))
 
 bare-small : (s : Spoken) (x : ℕ) (q : Request) → SmallRequest q → SmallForm (bare_of s x q)
-bare-small Nothing x q h = picked SmallForm (eqb x 0) _ _ h tt
-bare-small (Tagged t) x q h = tt
-bare-small Garbled x q h = tt
+bare-small None x q h = tt
+bare-small (Some None) x q h = picked SmallForm (eqb x 0) _ _ h tt
+bare-small (Some (Some t)) x q h = tt
 
 next_small : (r : ℕ) (s : Spoken) → SmallSpoken s → SmallForm (next_of r s)
-next_small r Nothing h = tt
-next_small r (Tagged t) h = h
-next_small r Garbled h = tt
+next_small r None h = tt
+next_small r (Some e) h = h
 
 tag_small : (s : Spoken) (q : Tag → Request) → ((t : Tag) → Small t → SmallRequest (q t)) → SmallSpoken s → SmallForm (tag_of s q)
-tag_small Nothing q f h = tt
-tag_small (Tagged t) q f h = f t h
-tag_small Garbled q f h = tt
+tag_small None q f h = tt
+tag_small (Some None) q f h = tt
+tag_small (Some (Some t)) q f h = f t h
 
 form_small : (k n : ℕ) (s : Spoken) (x : ℕ) → SmallSpoken s → SmallForm (form_of k n s x)
 unfolding form_of publish_of complete_of payload_of numberless_of
@@ -104,8 +91,8 @@ tag_fits Forever e h = tt
 request-fits : (q : Request) → far_of q ≡ false → SmallRequest q → FitsRequest q
 unfolding far_of
 request-fits (Hello d) e h = tt
-request-fits (Publish r Quiet) e h = tt
-request-fits (Publish r (Event t)) e h = tag_fits t e h
+request-fits (Publish r None) e h = tt
+request-fits (Publish r (Some t)) e h = tag_fits t e h
 request-fits (Complete t) e h = tag_fits t e h
 request-fits (Payload k t x) e h = tag_fits t e h
 request-fits (ConfirmIdle r) e h = tt
@@ -114,8 +101,8 @@ request-fits (Abort c) e h = tt
 
 judged-fits : (i : ℕ) (f : Form) → SmallForm f → (judged_by i f).number ≡ 0 → FitsRequest (judged_by i f).request
 unfolding judged_by
-judged-fits i Malformed h e = absurd (omega arith)
-judged-fits i (Asks q) h e = go (far_of q) refl
+judged-fits i None h e = absurd (omega arith)
+judged-fits i (Some q) h e = go (far_of q) refl
   where
     go : (b : Bool) → far_of q ≡ b → FitsRequest (pick (far_of q) (refused 17) (record { number = 0; member = i; request = q })).request
     go true z = absurd (omega (arith, rw z at e))

@@ -1,3 +1,2 @@
-pub mod Seven
 pub mod Table
 pub mod Heard

@@ -13,8 +13,7 @@ use lib.ListN.{length, get_or, take}
 use lib.Seq.{length-take-le, get_or-take}
 use Rattle.basis.specs.Choice.{both}
 use Rattle.plans.specs.declared.Plan.{Plan}
-use Rattle.plans.specs.declared.Reading.{Reading}
-use Rattle.plans.specs.Reading.{reading_of}
+use Rattle.plans.specs.Reading.{Reading, reading_of}
 use Rattle.routes.specs.declared.Walk.{Walk}
 use Rattle.routes.specs.Closed.{ClosedZero, after, goes_on, closing, closes_zero, listed, accepts}
 use Rattle.routes.proofs.Every.{both_true, both_if, both_first, both-second, every-at, every_if, every-agree}
@@ -62,23 +61,6 @@ module _ (src dst delay : List ℕ) (m x y : ℕ) where
       both_if _ _ (lt-ltb _ _ g.here)
       (both_if _ _ (lt-ltb _ _ g.there)
       (both_if _ _ (eq-eqb _ _ g.still) (eq-eqb _ _ g.joined)))
-
-  -- why a step is none: a position past the edges, a delay
-  pub goes-not-here : m ≤ x → goes_on src dst delay m x y ≡ false
-  unfolding goes_on
-  goes-not-here h = both_first _ _ (le-ltb _ _ h)
-
-  pub goes-not-there : m ≤ y → goes_on src dst delay m x y ≡ false
-  unfolding goes_on
-  goes-not-there h = rw (le-ltb y m h) (both-second (ltb x m) false refl)
-
-  pub goes-late : (get_or delay x 0 ≡ 0 → ⊥) → goes_on src dst delay m x y ≡ false
-  unfolding goes_on
-  goes-late d = rw (ne_eqb (get_or delay x 0) 0 d) (both-second (ltb x m) (both (ltb y m) false) (both-second (ltb y m) false refl))
-
-  pub goes_by : x < m → y < m → get_or delay x 0 ≡ 0 → eqb (get_or dst x 0) (get_or src y 0) ≡ goes_on src dst delay m x y
-  unfolding goes_on
-  goes_by a b e = rw (lt-ltb x m a, lt-ltb y m b, eq-eqb (get_or delay x 0) 0 e) refl
 
 -- ---- a walk by value
 pub closing-taken : (src dst delay : List ℕ) (m n : ℕ) (es : List ℕ) → closing src dst delay m n es ≡ closing src dst delay m n (take n es)

@@ -1,12 +1,16 @@
 -- Laws of tests at every place below a count.
 -- Assumes nothing.
 use mathlib.Core.Bool.{Bool, true, false}
-use mathlib.Core.Path.{◌≡◌, refl}
+use mathlib.Core.Path.{◌≡◌, refl, sym, ◌∙◌}
 use mathlib.Core.Logic.{⊎_elim}
-use Prim.Native.Nat.{ℕ, zero, suc, ◌+◌, ◌<◌}
+use Prim.Native.Nat.{ℕ, zero, suc, ◌+◌, ◌-◌, ◌<◌}
 use native.Mathlib.Omega.{arith}
 use native.Mathlib.Numerals.{add-one}
 use native.Mathlib.Nat.{eq-or-lt_of_le, le_of_suc-le-suc}
+use lib.ListN.{length, get_or}
+use Rattle.std.specs.Bool.{MatchBool}
+use Rattle.std.specs.List.{AllWithin, HoldsAt, range_with_len}
+use Rattle.std.proofs.lemmas.List.FromFn.{length-range_with_len, get_or-range_with_len}
 use Rattle.basis.specs.Choice.{both}
 use Rattle.routes.specs.Closed.{every}
 
@@ -51,3 +55,24 @@ pub every-agree : (f g : ℕ → Bool) (n : ℕ) → ((i : ℕ) → i < n → f 
 unfolding every
 every-agree f g zero h = refl
 every-agree f g (suc n) h = rw (h n (omega arith), every-agree f g n (λ i l. h i (omega arith))) refl
+
+-- what `all` over the numbers below n answers
+pub all-every : (test : ℕ → Bool) (n : ℕ) (r : Bool)
+    → MatchBool r (AllWithin (λ i. test i ≡ true) (range_with_len 0 (n - 0)) 0 (length (range_with_len 0 (n - 0))))
+    ((k : ℕ) × (k < length (range_with_len 0 (n - 0))) × HoldsAt (λ i. test i ≡ false) (range_with_len 0 (n - 0)) k)
+    → r ≡ every test n
+all-every test n r h = go r h
+  where
+    long : length (range_with_len 0 (n - 0)) ≡ n
+    long = length-range_with_len 0 (n - 0) ∙ omega arith
+
+    at : (k : ℕ) → k < n → get_or (range_with_len 0 (n - 0)) k 0 ≡ k
+    at k l = get_or-range_with_len 0 (n - 0) k 0 (omega arith) ∙ omega arith
+
+    go : (r : Bool) → MatchBool r (AllWithin (λ i. test i ≡ true) (range_with_len 0 (n - 0)) 0 (length (range_with_len 0 (n - 0))))
+        ((k : ℕ) × (k < length (range_with_len 0 (n - 0))) × HoldsAt (λ i. test i ≡ false) (range_with_len 0 (n - 0)) k)
+        → r ≡ every test n
+    go true h = sym (every_if test n (λ i l. rw (at i l) at (h i 0 (omega arith) (omega (arith, long)))))
+    go false h =
+        let l : h.0 < n = omega (arith, long, h.1) in
+        sym (every-stop test n h.0 l (rw (at h.0 l) at (h.2 0)))

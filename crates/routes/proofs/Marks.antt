@@ -4,19 +4,26 @@ use mathlib.Core.Bool.{Bool, true, false}
 use mathlib.Core.Path.{◌≡◌, refl, sym, ap, ◌∙◌}
 use mathlib.Core.Logic.{◌⊎◌, ⊎_elim, inl, inr}
 use mathlib.Core.List.{List}
-use Prim.Native.Nat.{ℕ, ◌+◌, ◌-◌, ◌<◌, ◌≤◌}
+use Prim.Native.Nat.{ℕ, ◌+◌, ◌-◌, ◌<◌, ◌≤◌, min}
 use native.Mathlib.Omega.{arith}
 use native.Mathlib.Nat.{eq-or-lt_of_le}
 use native.Mathlib.Decide.{ℕ_discrete}
 use borrow.Author.Tests.{eqb-true, lt-ltb, le-ltb, eq-eqb, ne_eqb}
 use lib.Dec.{eqb}
-use lib.ListN.{length, get_or, set}
+use lib.ListN.{length, get_or, set, get_or-map}
+use denote.Enum.Bare.{sameb}
+use Rattle.std.proofs.lemmas.List.{map-set, length-map}
 use lib.Seq.{get_or-set_same, get_or-set_other}
 use Rattle.basis.specs.Choice.{pick, not, both}
+use Rattle.delays.specs.declared.Reach.{Reach}
 use Rattle.delays.specs.declared.Reach.TheVariants.{At, TooFar, None}
-use Rattle.delays.specs.Graph.{far, reach_of}
+use Rattle.delays.specs.Graph.{far, none, plus, reach_of}
+use Rattle.delays.specs.Cells.{dist_of}
 use Rattle.delays.proofs.Walks.{le-or-lt, of-near, of-far, of_none, Size, near, just, past, size}
-use Rattle.routes.specs.Paths.{mark_of, Marked, enters}
+use Rattle.routes.specs.declared.marking.Mark.{Mark}
+use Rattle.routes.specs.declared.marking.Mark.TheVariants.{Not, After, Alone}
+use Rattle.routes.specs.contracts.marking.Mark.{the_type}
+use Rattle.routes.specs.Paths.{mark_no, marks_of, mark_of, Marked, enters}
 use Rattle.routes.proofs.Every.{both_true}
 
 -- ---- a reach by its view
@@ -28,27 +35,68 @@ seen_at v d e = go (size v)
     go (just h) = let z : ◌≡◌ {A = ℕ} 0 1 = cc (of-far v h) in absurd (omega arith)
     go (past h) = let z : ◌≡◌ {A = ℕ} 0 1 = cc (of_none v h) in absurd (omega arith)
 
-pub seen-far : (v : ℕ) → reach_of v ≡ TooFar → far ≤ v
-seen-far v e = go (size v)
+pub seen-not : (v : ℕ) → ((d : ℕ) → reach_of v ≡ At d → ⊥) → far ≤ v
+seen-not v n = ⊎_elim (λ h. h) (λ l. absurd (n v (of-near v l))) (le-or-lt far v)
+
+-- ---- a sum by its view
+dist-seen : (x : ℕ) → x < far → dist_of (reach_of x) ≡ x
+dist-seen x h = rw (of-near x h) (omega arith)
+
+dist-over : (x : ℕ) → far ≤ x → far ≤ dist_of (reach_of x)
+dist-over x h = go (size x)
   where
-    go : Size v → far ≤ v
-    go (near h) = let z : ◌≡◌ {A = ℕ} 0 1 = cc (of-near v h) in absurd (omega arith)
-    go (just h) = omega arith
-    go (past h) = omega arith
+    go : Size x → far ≤ dist_of (reach_of x)
+    go (near l) = absurd (omega arith)
+    go (just e) = rw (of-far x e) (omega arith)
+    go (past l) = rw (of_none x l) (omega arith)
 
-pub seen_none : (v : ℕ) → reach_of v ≡ None → far ≤ v
-seen_none v e = go (size v)
-  where
-    go : Size v → far ≤ v
-    go (near h) = let z : ◌≡◌ {A = ℕ} 0 1 = cc (of-near v h) in absurd (omega arith)
-    go (just h) = omega arith
-    go (past h) = omega arith
+module _ (x d v : ℕ) (r q : Reach) (e : r ≡ reach_of x) (s : dist_of q ≡ plus (dist_of r) (min d far)) (hd : d < far) (hv : v < far) where
+  pub sum-seen : q ≡ At v → eqb (x + d) v ≡ true
+  unfolding plus
+  sum-seen k = eq-eqb (x + d) v (go (le-or-lt far x))
+    where
+      total : min v far ≡ plus (dist_of (reach_of x)) (min d far)
+      total = rw (k, e) at s
 
-pub apart : (g d v : ℕ) → far ≤ g → v < far → false ≡ eqb (g + d) v
-apart g d v h l = sym (ne_eqb (g + d) v (omega arith))
+      go : (far ≤ x) ⊎ (x < far) → x + d ≡ v
+      go (inl h) = absurd (omega (arith, total, dist-over x h))
+      go (inr h) = omega (arith, total, dist-seen x h)
 
-pub adds-by : (g u d v : ℕ) (r : Bool) → reach_of g ≡ At u → r ≡ eqb (u + d) v → r ≡ eqb (g + d) v
-adds-by g u d v r e q = q ∙ ap (λ (x : ℕ). eqb (x + d) v) (sym (seen_at g u e).0)
+  pub sum-other : (q ≡ At v → ⊥) → eqb (x + d) v ≡ false
+  unfolding plus
+  sum-other n = ne_eqb (x + d) v (λ k. go q refl (rw e at s) k)
+    where
+      go : (y : Reach) → q ≡ y → dist_of q ≡ plus (dist_of (reach_of x)) (min d far) → x + d ≡ v → ⊥
+      go (At w) z t k =
+          let u : min w far ≡ plus (dist_of (reach_of x)) (min d far) = rw z at t in
+          let m : w ≡ v = omega (arith, u, dist-seen x (omega arith)) in
+          n (z ∙ ap At m)
+      go TooFar z t k =
+          let u : far ≡ plus (dist_of (reach_of x)) (min d far) = rw z at t in
+          omega (arith, u, dist-seen x (omega arith))
+      go None z t k =
+          let u : none ≡ plus (dist_of (reach_of x)) (min d far) = rw z at t in
+          omega (arith, u, dist-seen x (omega arith))
+
+-- ---- marks as numbers
+pub marks-at : (ms : List Mark) (e : ℕ) → get_or (marks_of ms) e 0 ≡ mark_no (get_or ms e Not)
+marks-at ms e = get_or-map mark_no ms e Not
+
+pub is_marked : (m : Mark) → not (sameb the_type m Not) ≡ not (eqb (mark_no m) 0)
+is_marked Not = refl
+is_marked After = refl
+is_marked Alone = refl
+
+pub alone-at : (ms : List Mark) (e : ℕ) → get_or ms e Not ≡ Alone → get_or (marks_of ms) e 0 ≡ 2
+alone-at ms e q = marks-at ms e ∙ ap mark_no q
+
+alone-two : (m : Mark) → mark_no m ≡ 2 → m ≡ Alone
+alone-two Not q = absurd (omega arith)
+alone-two After q = absurd (omega arith)
+alone-two Alone q = refl
+
+pub alone-not : (ms : List Mark) (e : ℕ) → (get_or ms e Not ≡ Alone → ⊥) → get_or (marks_of ms) e 0 ≡ 2 → ⊥
+alone-not ms e n q = n (alone-two _ (sym (marks-at ms e) ∙ q))
 
 -- ---- the mark
 module _ (g : ℕ → ℕ) (from s t d : ℕ) where
@@ -61,6 +109,13 @@ module _ (g : ℕ → ℕ) (from s t d : ℕ) where
   pub mark-out : far ≤ g t → 0 ≡ mark_of g from s t d
   unfolding mark_of
   mark-out h = rw (le-ltb (g t) far h) refl
+
+  pub not_alone : (v : ℕ) → (s ≡ from → d ≡ v → ⊥) → both (eqb s from) (eqb d v) ≡ false
+  not_alone v n = go (ℕ_discrete s from)
+    where
+      go : Dec (s ≡ from) → both (eqb s from) (eqb d v) ≡ false
+      go (yes e) = rw (eq-eqb s from e) (ne_eqb d v (n e))
+      go (no e) = rw (ne_eqb s from e) refl
 
   -- what each mark says
   pub data Meaning : Type 0 where
@@ -101,6 +156,10 @@ module _ (src dst delay : List ℕ) (g : ℕ → ℕ) (from : ℕ) (was : List �
       one i (inl q) = rw q (get_or-set_same marks k v 0 l ∙ e)
       one i (inr h) = get_or-set_other marks k i v 0 (omega arith) ∙ M.set i h
 
+  pub marked_marks : (k : ℕ) (ms : List Mark) (m : Mark) → k < length ms → Marked src dst delay k g from was (marks_of ms)
+      → mark_no m ≡ mark_of g from (get_or src k 0) (get_or dst k 0) (get_or delay k 0) → Marked src dst delay (k + 1) g from was (marks_of (set ms k m))
+  marked_marks k ms m l M e = rw (map-set mark_no ms k m) (marked_more k (marks_of ms) (mark_no m) (rw (length-map ms mark_no) l) M e)
+
 -- ---- the edge that enters
 pub enters-not : (dst marks : List ℕ) (at e x : ℕ) → x ≡ get_or dst e 0 → (x ≡ at → ⊥) → false ≡ enters dst marks at e
 unfolding enters
@@ -122,20 +181,3 @@ enters_true dst marks at e q =
 pub enters_if : (dst marks : List ℕ) (at e : ℕ) → get_or dst e 0 ≡ at → (get_or marks e 0 ≡ 0 → ⊥) → enters dst marks at e ≡ true
 unfolding enters
 enters_if dst marks at e q d = rw (eq-eqb (get_or dst e 0) at q, ne_eqb (get_or marks e 0) 0 d) refl
-
--- ---- a sum without passing the largest number
-pub together-by : (u d v : ℕ) → u ≤ v → eqb (v - u) d ≡ eqb (u + d) v
-together-by u d v h = go (ℕ_discrete (u + d) v)
-  where
-    go : Dec (u + d ≡ v) → eqb (v - u) d ≡ eqb (u + d) v
-    go (yes e) = eq-eqb (v - u) d (omega arith) ∙ sym (eq-eqb (u + d) v e)
-    go (no n) = ne_eqb (v - u) d (λ z. n (omega arith)) ∙ sym (ne_eqb (u + d) v n)
-
-pub together-not : (u d v : ℕ) → v < u → false ≡ eqb (u + d) v
-together-not u d v h = sym (ne_eqb (u + d) v (omega arith))
-
-pub none_of : (g : ℕ) → far ≤ g → false ≡ eqb g 0
-none_of g h = sym (ne_eqb g 0 (omega arith))
-
-pub seen-zero : (g d : ℕ) → reach_of g ≡ At d → eqb d 0 ≡ eqb g 0
-seen-zero g d e = ap (λ (x : ℕ). eqb x 0) (sym (seen_at g d e).0)

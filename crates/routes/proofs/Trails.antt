@@ -1,7 +1,7 @@
 -- Along kept edges until a member repeats.
 -- Assumes nothing.
 use mathlib.Core.Bool.{Bool, true, false}
-use mathlib.Core.Path.{◌≡◌, refl, sym, ◌∙◌}
+use mathlib.Core.Path.{◌≡◌, refl, sym, ap, ◌∙◌}
 use mathlib.Core.Logic.{◌⊎◌, ⊎_elim, inl, inr}
 use mathlib.Core.List.{List, [], ◌∷◌}
 use Prim.Native.Nat.{ℕ, zero, suc, ◌+◌, ◌-◌, ◌<◌, ◌≤◌}
@@ -10,10 +10,13 @@ use native.Mathlib.Nat.{eq-or-lt_of_le, le_of_suc-le-suc, not-suc-le-zero}
 use native.Mathlib.Decide.{ℕ_discrete}
 use borrow.Author.Tests.{eqb-true, eq-eqb, ne_eqb}
 use lib.Dec.{eqb}
-use lib.ListN.{length, get_or, set}
+use lib.ListN.{length, get_or, set, get_or-map}
+use Rattle.std.proofs.lemmas.List.{map-set, length-map}
 use lib.Seq.{get_or-set_same, get_or-set_other}
+use native.Mathlib.Numerals.{add-one}
+use Rattle.std.proofs.Common.{Option, None, Some}
 use Rattle.basis.specs.Choice.{pick, not}
-use Rattle.routes.specs.Trails.{keep_of, Keeping, leaving, Leaves, unvisited, Trail, Standing, Stretch, Moved}
+use Rattle.routes.specs.Trails.{keep_of, kept_no, kept_of, seen_no, seen_of, Keeping, leaving, Leaves, unvisited, Trail, Standing, Stretch}
 use Rattle.routes.proofs.Every.{both_true}
 
 -- ---- counting
@@ -42,6 +45,18 @@ leaving-by src kept m e x q d = rw (eq-eqb (get_or src e 0) m (sym q ∙ d)) ref
 
 clash : false ≡ true → ⊥
 clash k = let z : ◌≡◌ {A = ℕ} 0 1 = cc in omega arith
+
+-- kept as numbers
+kept-at : (ks : List Bool) (e : ℕ) → get_or (kept_of ks) e 0 ≡ kept_no (get_or ks e false)
+kept-at ks e = get_or-map kept_no ks e false
+
+is_kept : (b : Bool) → b ≡ not (eqb (kept_no b) 0)
+is_kept true = refl
+is_kept false = refl
+
+pub leaving-kept : (src : List ℕ) (ks : List Bool) (m e x : ℕ) → x ≡ get_or src e 0 → x ≡ m → get_or ks e false ≡ leaving src (kept_of ks) m e
+leaving-kept src ks m e x q d =
+    is_kept _ ∙ ap (λ (k : ℕ). not (eqb k 0)) (sym (kept-at ks e)) ∙ leaving-by src (kept_of ks) m e x q d
 
 pub leaving_true : (src kept : List ℕ) (m e : ℕ) → leaving src kept m e ≡ true → (get_or src e 0 ≡ m) × (get_or kept e 0 ≡ 0 → ⊥)
 unfolding leaving
@@ -111,10 +126,9 @@ module _ (src dst kept seen out : List ℕ) (m depth : ℕ) where
         marks x i (inr b) = (omega (arith, b.0), rw (b.0, new) (f ∙ sym b.1))
 
     -- a member that repeats closes the walk
-    pub repeats : (v : ℕ) → v ≡ get_or seen (get_or dst e 0) 0 → (v ≡ 0 → ⊥) → Stretch src dst kept (set out depth e) (v - 1) (depth + 1)
-    repeats v q d =
-        let y : get_or seen (get_or dst e 0) 0 ≡ suc (v - 1) = sym q ∙ omega arith in
-        let t = steps.marks (get_or dst e 0) (v - 1) y in
+    pub repeats : (v : ℕ) → suc v ≡ get_or seen (get_or dst e 0) 0 → Stretch src dst kept (set out depth e) v (depth + 1)
+    repeats v q =
+        let t = steps.marks (get_or dst e 0) v (sym q) in
         let z : depth + 1 - 1 ≡ depth = omega arith in
         record {
           some = t.0;
@@ -124,35 +138,34 @@ module _ (src dst kept seen out : List ℕ) (m depth : ℕ) where
           closed = rw (z, new) (sym t.1);
         }
 
--- ---- moving to the front
-module _ (out was : List ℕ) (start : ℕ) where
-  pub moved_none : Moved out was was start 0
-  moved_none = record { set = λ i h. absurd (omega arith); rest = λ i h. refl }
+-- ---- visits as numbers
+pub seen-at : (ss : List (Option ℕ)) (x : ℕ) → get_or (seen_of ss) x 0 ≡ seen_no (get_or ss x None)
+seen-at ss x = get_or-map seen_no ss x None
 
-  pub moved_more : (k : ℕ) (es : List ℕ) → k < length es → Moved out was es start k → Moved out was (set es k (get_or out (start + k) 0)) start (k + 1)
-  moved_more k es l M =
-      record {
-        set = λ i h. one_more i (eq-or-lt_of_le (omega arith));
-        rest = λ i h. get_or-set_other es k i _ 0 (omega arith) ∙ M.rest i (omega arith);
-      }
-    where
-      one_more : (i : ℕ) → (i ≡ k) ⊎ (i < k) → get_or (set es k (get_or out (start + k) 0)) i 0 ≡ get_or out (start + i) 0
-      one_more i (inl q) = rw q (get_or-set_same es k _ 0 l)
-      one_more i (inr h) = get_or-set_other es k i _ 0 (omega arith) ∙ M.set i h
+module _ (ss : List (Option ℕ)) (m depth : ℕ) where
+  put : set (seen_of ss) m (depth + 1) ≡ seen_of (set ss m (Some depth))
+  put = ap (λ (x : ℕ). set (seen_of ss) m x) (add-one depth) ∙ sym (map-set seen_no ss m (Some depth))
+
+  pub marked_seen : length ss ≡ 32 → m < 32 → get_or (seen_of ss) m 0 ≡ 0 → unvisited (seen_of ss) ≡ unvisited (seen_of (set ss m (Some depth))) + 1
+  marked_seen l h e = rw (← put) (marked (seen_of ss) m (depth + 1) (omega (arith, length-map ss seen_no)) e (omega arith))
+
+  pub stands_seen : (src dst kept out : List ℕ) → length ss ≡ 32 → m < 32 → get_or (seen_of ss) m 0 ≡ 0
+      → Trail src dst kept (seen_of ss) out m depth → Standing src dst kept (seen_of (set ss m (Some depth))) out m depth
+  stands_seen src dst kept out l h e T = rw (← put) (stands src dst kept (seen_of ss) out m depth (length-map ss seen_no ∙ l) h e T)
 
 -- ---- which edges are kept
 module _ (g : ℕ → ℕ → ℕ) (home t d : ℕ) where
-  pub keep-late : (d ≡ 0 → ⊥) → 0 ≡ keep_of g home t d
+  pub keep-late : (d ≡ 0 → ⊥) → keep_of g home t d ≡ 0
   unfolding keep_of
   keep-late n = rw (ne_eqb d 0 n) refl
 
-  pub keep-yes : d ≡ 0 → eqb (g t home) 0 ≡ true → 1 ≡ keep_of g home t d
+  pub keep-by : (b : Bool) → d ≡ 0 → b ≡ eqb (g t home) 0 → kept_no b ≡ keep_of g home t d
   unfolding keep_of
-  keep-yes e q = rw (eq-eqb d 0 e, q) refl
-
-  pub keep-no : d ≡ 0 → eqb (g t home) 0 ≡ false → 0 ≡ keep_of g home t d
-  unfolding keep_of
-  keep-no e q = rw (eq-eqb d 0 e, q) refl
+  keep-by b e q = rw (eq-eqb d 0 e, ← q) (go b)
+    where
+      go : (b : Bool) → kept_no b ≡ pick b 1 0
+      go true = refl
+      go false = refl
 
   pub keep-only : (keep_of g home t d ≡ 0 → ⊥) → (d ≡ 0) × (g t home ≡ 0)
   unfolding keep_of
@@ -182,3 +195,7 @@ module _ (dst delay : List ℕ) (g : ℕ → ℕ → ℕ) (home : ℕ) (was : Li
       at : (i : ℕ) → (i ≡ k) ⊎ (i < k) → get_or (set kept k v) i 0 ≡ keep_of g home (get_or dst i 0) (get_or delay i 0)
       at i (inl q) = rw q (get_or-set_same kept k v 0 l ∙ e)
       at i (inr h) = get_or-set_other kept k i v 0 (omega arith) ∙ M.set i h
+
+  pub keeping_kept : (k : ℕ) (ks : List Bool) (b : Bool) → k < length ks → Keeping dst delay k g home was (kept_of ks)
+      → kept_no b ≡ keep_of g home (get_or dst k 0) (get_or delay k 0) → Keeping dst delay (k + 1) g home was (kept_of (set ks k b))
+  keeping_kept k ks b l M e = rw (map-set kept_no ks k b) (keeping-more k (kept_of ks) (kept_no b) (rw (length-map ks kept_no) l) M e)

@@ -13,10 +13,9 @@ use lib.Dec.{eqb}
 use lib.ListN.{length, get_or, take, replicate}
 use lib.Seq.{length-take-le, get_or-take}
 use Rattle.plans.specs.declared.Plan.{Plan}
-use Rattle.plans.specs.declared.Reading.{Reading}
-use Rattle.plans.specs.declared.Refusal.{Refusal}
+use Rattle.plans.specs.Numbers.{Reason}
 use Rattle.plans.specs.Values.{Fits}
-use Rattle.plans.specs.Reading.{reading_of}
+use Rattle.plans.specs.Reading.{Reading, reading_of}
 use Rattle.delays.specs.Graph.{far, EdgeOf, minimum_of}
 use Rattle.delays.specs.Cells.{grid, Held}
 use Rattle.delays.specs.Refusals.{first_loop, refusal_of}
@@ -26,13 +25,12 @@ use Rattle.delays.proofs.Cycles.{Quick, hop, hop-on, on, zero_iff}
 use Rattle.delays.proofs.Order.{minimum-least}
 use Rattle.delays.proofs.Found.{Verdict, looped, apart, fine, verdict, loop-found, eight}
 use Rattle.routes.specs.declared.Walk.{Walk}
-use Rattle.routes.specs.declared.Found.{Found}
 use Rattle.routes.specs.Closed.{ClosedZero, accepts}
-use Rattle.routes.specs.Paths.{walk_of, Blank}
+use Rattle.routes.specs.Paths.{Found, walk_of, Blank}
 use Rattle.routes.specs.Trails.{Witness, Closing, Witnessed, Keeping, Leaves, Onward, unvisited, Trail, Stretch, Moved}
 use Rattle.routes.proofs.Attaining.{zeros}
 use Rattle.routes.proofs.Closed.{accepts-right}
-use Rattle.routes.proofs.Trails.{keep-yes, keep-only, keep-agree}
+use Rattle.routes.proofs.Trails.{keep-by, keep-only, keep-agree}
 
 pub keeping-held : (p : Plan) → Fits p → (ks vs : List ℕ) (home : ℕ) (was kept : List ℕ) → Held ks vs (minimum_of p) → home < 32
     → Keeping p.targets p.delays p.edges (grid ks vs) home was kept → Keeping p.targets p.delays p.edges (minimum_of p) home was kept
@@ -62,7 +60,7 @@ module _ (p : Plan) (F : Fits p) (home : ℕ) (kept : List ℕ) (K : Keeping p.t
   kept-only e d = keep-only (minimum_of p) home (get_or p.targets e 0) (get_or p.delays e 0) (λ z. d (K.set e (kept_in e d) ∙ z))
 
   keeps : (e : ℕ) → e < p.edges → get_or p.delays e 0 ≡ 0 → minimum_of p (get_or p.targets e 0) home ≡ 0 → get_or kept e 0 ≡ 0 → ⊥
-  keeps e h d z q = omega (arith, K.set e h, keep-yes (minimum_of p) home (get_or p.targets e 0) (get_or p.delays e 0) d (eq-eqb (minimum_of p (get_or p.targets e 0) home) 0 z))
+  keeps e h d z q = omega (arith, K.set e h, keep-by (minimum_of p) home (get_or p.targets e 0) (get_or p.delays e 0) true d (sym (eq-eqb (minimum_of p (get_or p.targets e 0) home) 0 z)))
 
   module _ (w : (i : ℕ) → get_or p.delays i 0 < far) (z : minimum_of p home home ≡ 0) where
     -- a member that has a minimum of 0 to `home` is left by a kept edge
@@ -129,8 +127,8 @@ unfolding first_loop
 loop-held p F ks vs H =
     first-agree _ _ p.members (λ j l. ap (λ (x : ℕ). eqb x 0) (H.at j j (omega (arith, F.few)) (omega (arith, F.few)))) 0 p.members (omega arith)
 
-number_of : (a b : Refusal) → a ≡ b → a.number ≡ b.number
-number_of a b e = ap (λ (x : Refusal). x.number) e
+number_of : (a b : Reason) → a ≡ b → a.number ≡ b.number
+number_of a b e = ap (λ (x : Reason). x.number) e
 
 module _ (p : Plan) (h : ℕ) (e : h ≡ first_loop (minimum_of p) p.members) where
   pub loop-zero : h < p.members → minimum_of p h h ≡ 0

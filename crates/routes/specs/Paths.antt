@@ -1,14 +1,16 @@
 -- A path by edge positions whose delays sum to the minimum, and how one is written from its end.
 -- Assumes nothing.
-use Rattle.std.specs.Prelude.{Bool, ◌≡◌, ◌↔◌, List, ℕ, zero, suc, ◌+◌, ◌-◌, ◌<◌, ◌≤◌, ltb, eqb, length, get_or}
+use Rattle.std.specs.Prelude.{Bool, ◌≡◌, ◌↔◌, List, ℕ, zero, suc, ◌+◌, ◌-◌, ◌<◌, ◌≤◌, ltb, eqb, length, get_or, map, replicate, Result, Ok, Err}
 use Rattle.basis.specs.Choice.{pick, not, both}
 use Rattle.plans.specs.declared.Plan.{Plan}
 use Rattle.plans.specs.declared.Refusal.{Refusal}
+use Rattle.plans.specs.Numbers.{Reason, no_reason, reason_of}
 use Rattle.plans.specs.Reading.{reading_of}
 use Rattle.delays.specs.Graph.{far, Walk as Path, EdgeOf, minimum_of}
 use Rattle.delays.specs.Refusals.{or_else, refusal_of}
 use Rattle.routes.specs.declared.Walk.{Walk}
-use Rattle.routes.specs.declared.Found.{Found}
+use Rattle.routes.specs.declared.marking.Mark.{Mark}
+use Rattle.routes.specs.declared.marking.Mark.TheVariants.{Not, After, Alone}
 use Rattle.routes.specs.Closed.{listed}
 
 -- the delays of the first k edges that ws lists, together
@@ -34,6 +36,16 @@ pub record Answered (p : Plan) (s t : ℕ) (w : Walk) : Type 0 where
   pub few : w.count ≤ 32
   pub blank : (i : ℕ) → w.count ≤ i → get_or w.edges i 0 ≡ 0
 
+-- the outcome of a search: a refusal, or none and the walk
+pub record Found : Type 0 where
+  pub refusal : Reason
+  pub count : ℕ
+  pub edges : List ℕ
+
+abbrev pub found : Result Walk Refusal → Found
+found (Ok w) = record { refusal = no_reason; count = w.count; edges = w.edges }
+found (Err r) = record { refusal = reason_of r; count = 0; edges = replicate 32 0 }
+
 abbrev pub walk_of : Found → Walk
 walk_of r = record { count = r.count; edges = r.edges }
 
@@ -43,11 +55,11 @@ pub record Blank (r : Found) : Type 0 where
   pub blank : (i : ℕ) → get_or r.edges i 0 ≡ 0
 
 -- "refusals .. 1 to 9 (path) come first"
-unfoldable pub path_refusal : List ℕ → Refusal
+unfoldable pub path_refusal : List ℕ → Reason
 path_refusal b = or_else (reading_of b).refusal (refusal_of (reading_of b).plan)
 
 -- what is said of a pair: the refusal q, and then nothing; or none, and the answer
-pub record Sought (p : Plan) (s t : ℕ) (q : Refusal) (r : Found) : Type 0 where
+pub record Sought (p : Plan) (s t : ℕ) (q : Reason) (r : Found) : Type 0 where
   pub refusal : r.refusal ≡ q
   pub refused : (q.number ≡ 0 → ⊥) → Blank r
   pub answered : q.number ≡ 0 → Answered p s t (walk_of r)
@@ -59,6 +71,15 @@ Attained b s t r = Sought (reading_of b).plan s t (path_refusal b) r
 -- minimum alone, 1 if it attains it after s's, 0 if neither
 unfoldable pub mark_of : (ℕ → ℕ) → ℕ → ℕ → ℕ → ℕ → ℕ
 mark_of g from s t d = pick (ltb (g t) far) (pick (both (eqb s from) (eqb d (g t))) 2 (pick (eqb (g s + d) (g t)) 1 0)) 0
+
+-- marks as these numbers
+abbrev pub mark_no : Mark → ℕ
+mark_no Not = 0
+mark_no After = 1
+mark_no Alone = 2
+
+abbrev pub marks_of : List Mark → List ℕ
+marks_of marks = map mark_no marks
 
 -- each of m edges is marked so; later places are as they were
 pub record Marked (src dst delay : List ℕ) (m : ℕ) (g : ℕ → ℕ) (from : ℕ) (was marks : List ℕ) : Type 0 where

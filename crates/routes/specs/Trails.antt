@@ -1,14 +1,13 @@
 -- A witness: how one is found, member by member along kept edges, until a member repeats.
 -- Assumes nothing.
-use Rattle.std.specs.Prelude.{Bool, ◌≡◌, ◌⊎◌, ◌↔◌, List, [], ◌∷◌, ℕ, suc, ◌+◌, ◌-◌, ◌<◌, ◌≤◌, eqb, get_or}
+use Rattle.std.specs.Prelude.{Bool, ◌≡◌, ◌⊎◌, ◌↔◌, List, [], ◌∷◌, ℕ, suc, ◌+◌, ◌-◌, ◌<◌, ◌≤◌, eqb, get_or, map, true, false, Option, None, Some}
 use Rattle.basis.specs.Choice.{pick, not, both}
 use Rattle.plans.specs.declared.Plan.{Plan}
 use Rattle.plans.specs.Reading.{reading_of}
 use Rattle.delays.specs.Refusals.{refusal_of}
 use Rattle.routes.specs.declared.Walk.{Walk}
-use Rattle.routes.specs.declared.Found.{Found}
 use Rattle.routes.specs.Closed.{ClosedZero, listed}
-use Rattle.routes.specs.Paths.{walk_of, Blank}
+use Rattle.routes.specs.Paths.{Found, walk_of, Blank}
 
 -- "A witness lists edge positions of one such closed walk": one exactly where 8 applies; unused places are 0
 pub record Witness (p : Plan) (w : Walk) : Type 0 where
@@ -33,6 +32,22 @@ pub record Witnessed (b : List ℕ) (r : Found) : Type 0 where
 -- 1 if an edge to t with delay d has none, and t has a minimum of 0 to the member `home`; else 0
 unfoldable pub keep_of : (ℕ → ℕ → ℕ) → ℕ → ℕ → ℕ → ℕ
 keep_of g home t d = pick (both (eqb d 0) (eqb (g t home) 0)) 1 0
+
+-- kept as 1, else 0
+abbrev pub kept_no : Bool → ℕ
+kept_no true = 1
+kept_no false = 0
+
+abbrev pub kept_of : List Bool → List ℕ
+kept_of kept = map kept_no kept
+
+-- a visited member as 1 more than how many edges led to it, else 0
+abbrev pub seen_no : Option ℕ → ℕ
+seen_no None = 0
+seen_no (Some i) = suc i
+
+abbrev pub seen_of : List (Option ℕ) → List ℕ
+seen_of seen = map seen_no seen
 
 -- each of m edges is kept or not; later places are as they were
 pub record Keeping (dst delay : List ℕ) (m : ℕ) (g : ℕ → ℕ → ℕ) (home : ℕ) (was kept : List ℕ) : Type 0 where

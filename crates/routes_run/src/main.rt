@@ -2,39 +2,28 @@
 // others paths, with the sum of their delays.
 #![tactic(auto)]
 
-ghost use Rattle.std.specs.Prelude.{◌≡◌, ◌+◌, ◌*◌, ◌<◌, ◌≤◌, length};
+ghost use Rattle.std.specs.Prelude.{◌<◌, ◌≤◌};
 
-use routes::{Found, Walk};
+use plans::Refusal;
+use routes::Walk;
 use std::io;
 
 // Room for 32 members and 32 edges.
 const ROOM: usize = 1560;
 
-// Places of a walk by value, and of a table of edges.
-const PLACES: usize = 32;
+// No walk.
+const NOWHERE: Walk = Walk {
+    count: 0,
+    edges: [0; 32],
+};
 
-const EDGES: usize = 256;
-
-fn text(rt: &impl Print, words: &str) -> io::Result<()> {
-    print!(rt; "{words}")
-}
-
-fn number(rt: &impl Print, n: u64) -> io::Result<()> {
-    print!(rt; "{n}")
-}
-
-fn yes(rt: &impl Print, b: bool) -> io::Result<()> {
-    if b {
-        text(rt, " yes")?
-    } else {
-        text(rt, " no")?
-    }
-    Ok(())
+fn yes_or_no(b: bool) -> &'static str {
+    if b { "yes" } else { "no" }
 }
 
 // The header of a plan of n members and e edges.
-fn header(b: &mut [u8], n: u32, e: u32)
-    requires { (length b.old ≡ 1560) × (n ≤ 32) × (e ≤ 32) }
+fn header(b: &mut [u8; ROOM], n: u32, e: u32)
+    requires { (n ≤ 32) × (e ≤ 32) }
 {
     basis::write_u32(b, 0, 1);
     basis::write_u32(b, 4, n);
@@ -45,8 +34,8 @@ fn header(b: &mut [u8], n: u32, e: u32)
 }
 
 // Member i, with id 10 more than the one before it and capacity 1.
-fn member(b: &mut [u8], i: usize)
-    requires { (length b.old ≡ 1560) × (i < 32) }
+fn member(b: &mut [u8; ROOM], i: usize)
+    requires { i < 32 }
 {
     let at = 24 + 16 * i;
     basis::write_u64(b, at, 10 * i as u64);
@@ -55,8 +44,8 @@ fn member(b: &mut [u8], i: usize)
 }
 
 // Edge k of a plan of n members, between the members at two positions.
-fn edge(b: &mut [u8], n: usize, k: usize, s: u64, t: u64, d: u64)
-    requires { (length b.old ≡ 1560) × (n ≤ 32) × (k < 32) × (s ≤ 32) × (t ≤ 32) }
+fn edge(b: &mut [u8; ROOM], n: usize, k: usize, s: u64, t: u64, d: u64)
+    requires { (n ≤ 32) × (k < 32) × (s ≤ 32) × (t ≤ 32) }
 {
     let at = 24 + 16 * n + 32 * k;
     basis::write_u64(b, at, k as u64);
@@ -66,57 +55,41 @@ fn edge(b: &mut [u8], n: usize, k: usize, s: u64, t: u64, d: u64)
 }
 
 // A plan of n members and e edges that are still to be written.
-fn begin(b: &mut [u8], n: usize, e: usize)
-    requires { (length b.old ≡ 1560) × (n ≤ 32) × (e ≤ 32) }
+fn begin(b: &mut [u8; ROOM], n: usize, e: usize)
+    requires { (n ≤ 32) × (e ≤ 32) }
 {
     header(b, n as u32, e as u32);
-    let mut i: usize = 0;
-    while i < n {
+    for i in 0..n {
         member(b, i);
-        i += 1;
     }
 }
 
-fn walk_of(f: Found) -> Walk {
-    let count = f.count;
-    let edges = f.edges;
-    Walk { count, edges }
+// The refusal's number, or 0 and the walk.
+fn outcome(found: Result<Walk, Refusal>) -> (u64, Walk) {
+    match found {
+        Ok(w) => (0, w),
+        Err(r) => (r.number(), NOWHERE),
+    }
 }
 
-// One position changed.
-fn changed(w: Walk, place: usize, edge: u64) -> Walk
-    requires { place < 32 }
-{
-    let count = w.count;
-    let mut edges = w.edges;
-    edges[place] = edge;
-    Walk { count, edges }
+// The first position changed.
+fn changed(mut w: Walk, edge: u64) -> Walk {
+    w.edges[0] = edge;
+    w
 }
 
 // A step left out.
 fn shorter(w: Walk) -> Walk {
-    let count = w.count;
-    let edges = w.edges;
-    if count == 0 {
-        return Walk { count, edges };
-    }
     Walk {
-        count: count - 1,
-        edges,
+        count: w.count.saturating_sub(1),
+        ..w
     }
 }
 
 // The positions that a walk lists.
 fn show(rt: &impl Print, w: Walk) -> io::Result<()> {
-    let count = w.count;
-    let edges = w.edges;
-    let mut i: usize = 0;
-    while i < PLACES {
-        if i < count {
-            text(rt, " ")?;
-            number(rt, edges[i])?;
-        }
-        i += 1;
+    for edge in w.edges.iter().take(w.count) {
+        print!(rt; " {edge}")?;
     }
     Ok(())
 }
@@ -124,77 +97,50 @@ fn show(rt: &impl Print, w: Walk) -> io::Result<()> {
 // The witness of a plan, and whether the check takes it; then it with the first position changed to `other`, with a step
 // left out, and with the first position changed to `late`, an edge with a delay or none of the plan's.
 fn show_witness(rt: &impl Print, name: &str, plan: &[u8], other: u64, late: u64) -> io::Result<()> {
-    let found = routes::witness(plan);
-    text(rt, name)?;
-    text(rt, ": refusal ")?;
-    number(rt, found.refusal.number)?;
-    text(rt, " count ")?;
-    number(rt, found.count as u64)?;
-    text(rt, " edges")?;
-    let walk = walk_of(found);
+    let (refusal, walk) = outcome(routes::witness(plan));
+    print!(rt; "{name}: refusal {refusal} count {} edges", walk.count)?;
     show(rt, walk)?;
-    text(rt, "; taken")?;
-    yes(rt, routes::check_witness(plan, walk))?;
-    text(rt, ", changed")?;
-    yes(rt, routes::check_witness(plan, changed(walk, 0, other)))?;
-    text(rt, ", a step less")?;
-    yes(rt, routes::check_witness(plan, shorter(walk)))?;
-    text(rt, ", delayed")?;
-    yes(rt, routes::check_witness(plan, changed(walk, 0, late)))?;
-    text(rt, "\n")
+    let takes = |w: Walk| yes_or_no(routes::check_witness(plan, w));
+    println!(rt;
+        "; taken {}, changed {}, a step less {}, delayed {}",
+        takes(walk),
+        takes(changed(walk, other)),
+        takes(shorter(walk)),
+        takes(changed(walk, late))
+    )
 }
 
-// The delays of the edges that a walk lists, together.
+// The delays of the edges that a walk lists, together; 0 where the plan is refused.
 fn sum(plan: &[u8], w: Walk) -> u64 {
-    let reading = plans::read(plan);
-    let p = reading.plan;
-    let delays = p.delays;
-    let count = w.count;
-    let edges = w.edges;
+    let Ok(p) = plans::read(plan) else {
+        return 0;
+    };
     let mut total: u64 = 0;
-    let mut i: usize = 0;
-    while i < PLACES {
-        let e = edges[i] as usize;
-        if i < count {
-            if e < EDGES {
-                total = std::num::wrapping_add_u64(total, delays[e]);
-            }
+    for edge in w.edges.iter().take(w.count) {
+        if let Some(d) = p.delays.get(*edge as usize) {
+            total = total.wrapping_add(*d);
         }
-        i += 1;
     }
     total
 }
 
 // A path, and the sum of its delays.
 fn show_path(rt: &impl Print, plan: &[u8], from: u64, to: u64) -> io::Result<()> {
-    let found = routes::path(plan, from, to);
-    text(rt, "path ")?;
-    number(rt, from)?;
-    text(rt, " to ")?;
-    number(rt, to)?;
-    text(rt, ": refusal ")?;
-    number(rt, found.refusal.number)?;
-    text(rt, " edges")?;
-    let walk = walk_of(found);
+    let (refusal, walk) = outcome(routes::path(plan, from, to));
+    print!(rt; "path {from} to {to}: refusal {refusal} edges")?;
     show(rt, walk)?;
-    text(rt, " sum ")?;
-    number(rt, sum(plan, walk))?;
-    text(rt, "\n")
+    println!(rt; " sum {}", sum(plan, walk))
 }
 
 // A member that has an edge without delay to itself.
-fn itself(b: &mut [u8])
-    requires { length b.old ≡ 1560 }
-{
+fn itself(b: &mut [u8; ROOM]) {
     begin(b, 2, 2);
     edge(b, 2, 0, 0, 1, 5);
     edge(b, 2, 1, 1, 1, 0);
 }
 
 // Two that reach each other, and one that hangs on them.
-fn pair(b: &mut [u8])
-    requires { length b.old ≡ 1560 }
-{
+fn pair(b: &mut [u8; ROOM]) {
     begin(b, 3, 4);
     edge(b, 3, 0, 1, 0, 0);
     edge(b, 3, 1, 0, 2, 0);
@@ -203,9 +149,7 @@ fn pair(b: &mut [u8])
 }
 
 // Three in a ring, one that leads to them, and a way back with a delay.
-fn tail(b: &mut [u8])
-    requires { length b.old ≡ 1560 }
-{
+fn tail(b: &mut [u8; ROOM]) {
     begin(b, 4, 5);
     edge(b, 4, 0, 0, 1, 0);
     edge(b, 4, 1, 3, 1, 0);
@@ -215,22 +159,16 @@ fn tail(b: &mut [u8])
 }
 
 // All 32 in a ring.
-fn ring(b: &mut [u8])
-    requires { length b.old ≡ 1560 }
-{
+fn ring(b: &mut [u8; ROOM]) {
     begin(b, 32, 32);
     edge(b, 32, 31, 31, 0, 0);
-    let mut i: usize = 0;
-    while i < 31 {
+    for i in 0..31 {
         edge(b, 32, i, i as u64, i as u64 + 1, 0);
-        i += 1;
     }
 }
 
 // No closed walk without delay: 9 directly, 2 and 3 on the way.
-fn clear(b: &mut [u8])
-    requires { length b.old ≡ 1560 }
-{
+fn clear(b: &mut [u8; ROOM]) {
     begin(b, 5, 5);
     edge(b, 5, 0, 0, 2, 9);
     edge(b, 5, 1, 0, 1, 2);
@@ -239,9 +177,7 @@ fn clear(b: &mut [u8])
     edge(b, 5, 4, 3, 0, 1);
 }
 
-fn small_witnesses(rt: &impl Print, b: &mut [u8]) -> io::Result<()>
-    requires { length b.old ≡ 1560 }
-{
+fn small_witnesses(rt: &impl Print, b: &mut [u8; ROOM]) -> io::Result<()> {
     itself(b);
     show_witness(rt, "itself", &b[0..120], 0, 0)?;
     pair(b);
@@ -250,19 +186,15 @@ fn small_witnesses(rt: &impl Print, b: &mut [u8]) -> io::Result<()>
     show_witness(rt, "tail", &b[0..248], 0, 2)
 }
 
-fn other_witnesses(rt: &impl Print, b: &mut [u8]) -> io::Result<()>
-    requires { length b.old ≡ 1560 }
-{
+fn other_witnesses(rt: &impl Print, b: &mut [u8; ROOM]) -> io::Result<()> {
     ring(b);
-    show_witness(rt, "ring", &b[0..1560], 5, 32)?;
+    show_witness(rt, "ring", &b[..], 5, 32)?;
     clear(b);
     show_witness(rt, "clear", &b[0..264], 1, 2)?;
     show_witness(rt, "cut short", &b[0..263], 1, 2)
 }
 
-fn clear_paths(rt: &impl Print, b: &mut [u8]) -> io::Result<()>
-    requires { length b.old ≡ 1560 }
-{
+fn clear_paths(rt: &impl Print, b: &mut [u8; ROOM]) -> io::Result<()> {
     clear(b);
     let plan = &b[0..264];
     show_path(rt, plan, 0, 2)?;
@@ -275,15 +207,13 @@ fn clear_paths(rt: &impl Print, b: &mut [u8]) -> io::Result<()>
     show_path(rt, plan, 0, 18446744073709551615)
 }
 
-fn ring_paths(rt: &impl Print, b: &mut [u8]) -> io::Result<()>
-    requires { length b.old ≡ 1560 }
-{
+fn ring_paths(rt: &impl Print, b: &mut [u8; ROOM]) -> io::Result<()> {
     ring(b);
-    show_path(rt, b, 0, 1)?;
+    show_path(rt, &b[..], 0, 1)?;
     edge(b, 32, 31, 31, 0, 6);
-    show_path(rt, b, 0, 31)?;
-    show_path(rt, b, 4, 4)?;
-    show_path(rt, b, 9, 8)
+    show_path(rt, &b[..], 0, 31)?;
+    show_path(rt, &b[..], 4, 4)?;
+    show_path(rt, &b[..], 9, 8)
 }
 
 fn main(rt: HostRuntime) -> io::Result<()> {

@@ -119,6 +119,10 @@ transitive_delay b k = field 8 (transitives_at b) source_size 8 k b
 abbrev pub downstream_target : List ℕ → ℕ → ℕ
 downstream_target b k = field 4 (downstreams_at b) target_size 0 k b
 
+-- the header says where the edges start, and they end within the bytes
+abbrev pub Edged : List ℕ → Type 0
+Edged b = (number_at 4 28 b ≡ edges_at b) × (edges_at b + edge_size * edges b ≤ length b)
+
 -- every member's rows lie within their table
 pub record Within (first count : ℕ → ℕ) (n rows : ℕ) : Type 0 where
   pub at : (i : ℕ) → i < n → first i + count i ≤ rows

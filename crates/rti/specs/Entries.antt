@@ -1,6 +1,6 @@
 -- What each entry answers and leaves, for any input: the refusals 11 to 17 in the paper's order, then the session's step.
 -- Assumes nothing.
-use Rattle.std.specs.Prelude.{ℕ, zero, suc, ◌+◌, ◌*◌, Bool, true, false, List, [], ltb, length}
+use Rattle.std.specs.Prelude.{ℕ, zero, suc, ◌+◌, ◌*◌, Bool, true, false, Result, Ok, Err, List, [], ltb, length}
 use Rattle.basis.specs.Choice.{pick, not}
 use Rattle.basis.specs.Parts.{replaced}
 use Rattle.states.specs.declared.State.{State}
@@ -16,6 +16,8 @@ use Rattle.members.specs.Formed.{formed}
 use Rattle.passes.specs.Pages.{stopped_at}
 use Rattle.passes.specs.Ties.{all_words}
 use Rattle.rti.specs.declared.Answer.{Answer}
+use Rattle.rti.specs.declared.Refusal.{Refusal}
+use Rattle.rti.specs.Refusals.{refusal_no}
 
 -- ---- refusals, first match
 -- opening: 11, 12; 13 tag slab under 64 words a member
@@ -30,13 +32,24 @@ abort_refusal b s slab room = or_else (open_refusal b (length slab)) (or_else (w
 unfoldable pub request_refusal : List ℕ → State → List ℕ → ℕ → List ℕ → ℕ
 request_refusal b s slab room request = or_else (abort_refusal b s slab room) (asked_by request).number
 
+-- ---- what an entry answers: the refusal's number (0: none), how many deliveries are sent, and the state
+pub record Answered : Type 0 where
+  pub refusal : ℕ
+  pub count : ℕ
+  pub state : State
+
+-- the code's answer; a refusal sends nothing, and leaves the caller the state that it gave
+abbrev pub answered : State → Result Answer Refusal → Answered
+answered s (Ok a) = record { refusal = 0; count = a.count; state = a.state }
+answered s (Err r) = record { refusal = refusal_no r; count = 0; state = s }
+
 -- ---- what an entry answers, the words of the slab, the words of the delivery buffer
 pub record Outcome : Type 0 where
-  pub answer : Answer
+  pub answer : Answered
   pub slab : List ℕ
   pub words : List ℕ
 
-abbrev pub leaving : Answer → List ℕ → List ℕ → Outcome
+abbrev pub leaving : Answered → List ℕ → List ℕ → Outcome
 leaving a slab words = record { answer = a; slab = slab; words = words }
 
 -- None of these changes a lent word or the state.

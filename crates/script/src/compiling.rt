@@ -1,193 +1,109 @@
 // The commands about the compiled plan, and about what is lent to a call.
-ghost use Rattle.std.specs.Prelude.{◌≤◌, length};
+ghost use Rattle.std.specs.Prelude.{◌≤◌, IfSome, length};
 
-use crate::session::{ROOM, SLAB, Session, least, say_error, say_number, say_refusal};
+use crate::session::{BYTES, ROOM, SLAB, Session};
 use std::io;
 
 // The most bytes that a compiled plan has.
 const MOST: u64 = 31920;
 
-// The bytes that a word says, and where it ends in its line.
+// How many bytes a word says, and where it ends in its line.
 #[derive(Clone, Copy)]
 pub struct Given {
-    pub good: bool,
     pub count: usize,
     pub end: usize,
 }
 
-// The bytes that the word after place `from` says, put at the start of bytes.
-pub fn read_given(line: &[u8], from: usize, bytes: &mut [u8]) -> Given
-    ensures { result.count ≤ length bytes.new }
+// The bytes that the first word of the rest of a line says, put at the start of bytes.
+pub fn read_given(rest: &[u8], bytes: &mut [u8]) -> Option<Given>
+    ensures { IfSome result (λ g. g.count ≤ length bytes.new) }
 {
-    if line.len() <= from {
-        return Given {
-            good: false,
-            count: 0,
-            end: from,
-        };
+    if rest.is_empty() {
+        return None;
     }
-    let start = from + 1;
-    let end = text::word_end(line, start);
-    let said = text::read_bytes(&line[start..end], bytes);
-    Given {
-        good: said.good,
-        count: said.count,
-        end,
-    }
-}
-
-// The first bytes of the image, in hex.
-fn put_image(
-    rt: &impl Print,
-    out: &mut [u8],
-    at: usize,
-    image: &[u8],
-    total: usize,
-) -> io::Result<usize> {
-    if image.len() < total {
-        return Ok(at);
-    }
-    text::put_hex(rt, out, at, &image[0..total])
-}
-
-// The compiled plan in use, in hex.
-fn say_compiled(
-    rt: &impl Print,
-    out: &mut [u8],
-    mut s: Session,
-    image: &[u8],
-) -> io::Result<Session> {
-    let total = s.size;
-    let one = text::put(rt, out, s.at, b"compiled")?;
-    let two = text::put_item(rt, out, one, total as u64)?;
-    let three = text::put(rt, out, two, b" ")?;
-    let four = put_image(rt, out, three, image, total)?;
-    s.at = text::put(rt, out, four, b"\n")?;
-    Ok(s)
-}
-
-// Compiles plan bytes into so many bytes of the image.
-fn compiled(
-    rt: &impl Print,
-    plan: &[u8],
-    room: u64,
-    out: &mut [u8],
-    image: &mut [u8],
-    mut s: Session,
-) -> io::Result<Session> {
-    let limit = least(room, image.len());
-    let c = image::compile(plan, &mut image[0..limit]);
-    let refusal = c.refusal;
-    if refusal.number != 0 {
-        return say_refusal(rt, out, s, refusal);
-    }
-    s.size = c.total;
-    say_compiled(rt, out, s, image)
-}
-
-// plan HEX [ROOM]
-pub fn plan(
-    rt: &impl Print,
-    line: &[u8],
-    from: usize,
-    scratch: &mut [u8],
-    out: &mut [u8],
-    image: &mut [u8],
-    s: Session,
-) -> io::Result<Session> {
-    let g = read_given(line, from, scratch);
-    let mut words = [MOST; 1];
-    let n = text::read_numbers(line, g.end, &mut words);
-    if !g.good {
-        return say_error(rt, out, s);
-    }
-    if !n.good {
-        return say_error(rt, out, s);
-    }
-    if 1 < n.count {
-        return say_error(rt, out, s);
-    }
-    let count = g.count;
-    compiled(rt, &scratch[0..count], words[0], out, image, s)
-}
-
-// Uses these bytes as the compiled plan.
-fn used(
-    rt: &impl Print,
-    bytes: &[u8],
-    out: &mut [u8],
-    image: &mut [u8],
-    mut s: Session,
-) -> io::Result<Session> {
-    let n = bytes.len();
-    if image.len() < n {
-        return say_error(rt, out, s);
-    }
-    image[0..n].copy_from_slice(bytes);
-    s.size = n;
-    say_number(rt, out, s, b"image", n as u64)
-}
-
-// image HEX
-pub fn image(
-    rt: &impl Print,
-    line: &[u8],
-    from: usize,
-    scratch: &mut [u8],
-    out: &mut [u8],
-    image: &mut [u8],
-    s: Session,
-) -> io::Result<Session> {
-    let g = read_given(line, from, scratch);
-    if !g.good {
-        return say_error(rt, out, s);
-    }
-    if g.end < line.len() {
-        return say_error(rt, out, s);
-    }
-    let count = g.count;
-    used(rt, &scratch[0..count], out, image, s)
+    let end = text::word_end(rest, 1);
+    let count = text::read_bytes(&rest[1..end], bytes)?;
+    Some(Given { count, end })
 }
 
 // The one number that the rest of a line says, at most so large.
-pub fn one_number(line: &[u8], from: usize, most: u64) -> text::Number {
+pub fn one_number(rest: &[u8], most: u64) -> Option<u64>
+    ensures { IfSome result (λ n. n ≤ most) }
+{
     let mut words = [0u64; 1];
-    let n = text::read_numbers(line, from, &mut words);
-    let good = n.good && n.count == 1 && words[0] <= most;
-    text::Number {
-        good,
-        value: words[0],
+    let count = text::read_numbers(rest, 0, &mut words)?;
+    if count == 1 && words[0] <= most {
+        Some(words[0])
+    } else {
+        None
     }
 }
 
-// slab WORDS
-pub fn slab(
-    rt: &impl Print,
-    line: &[u8],
-    from: usize,
-    out: &mut [u8],
-    mut s: Session,
-) -> io::Result<Session> {
-    let n = one_number(line, from, SLAB as u64);
-    if !n.good {
-        return say_error(rt, out, s);
+impl Session {
+    // The compiled plan in use, in hex.
+    fn say_compiled(&mut self, rt: &impl Print) -> io::Result<()> {
+        self.out.put(rt, b"compiled")?;
+        self.out.put_item(rt, self.size as u64)?;
+        self.out.put(rt, b" ")?;
+        self.out.put_hex(rt, &self.image[..self.size.min(BYTES)])?;
+        self.out.put(rt, b"\n")
     }
-    s.lent = n.value as usize;
-    say_number(rt, out, s, b"slab", n.value)
-}
 
-// room WORDS
-pub fn room(
-    rt: &impl Print,
-    line: &[u8],
-    from: usize,
-    out: &mut [u8],
-    mut s: Session,
-) -> io::Result<Session> {
-    let n = one_number(line, from, ROOM as u64);
-    if !n.good {
-        return say_error(rt, out, s);
+    // Compiles the plan of so many bytes into so many bytes of the image.
+    fn compiled(&mut self, rt: &impl Print, count: usize, room: u64) -> io::Result<()>
+        requires { count ≤ 32800 }
+    {
+        let limit = room.min(BYTES as u64) as usize;
+        let image = &mut self.image[..];
+        match image::compile(&self.scratch[..count], &mut image[..limit]) {
+            Ok(total) => {
+                self.size = total;
+                self.say_compiled(rt)
+            }
+            Err(r) => self.say_refusal(rt, r),
+        }
     }
-    s.room = n.value as usize;
-    say_number(rt, out, s, b"room", n.value)
+
+    // plan HEX [ROOM]
+    pub fn plan(&mut self, rt: &impl Print, rest: &[u8]) -> io::Result<()> {
+        let Some(g) = read_given(rest, &mut self.scratch) else {
+            return self.say_error(rt);
+        };
+        let mut words = [MOST; 1];
+        match text::read_numbers(rest, g.end, &mut words) {
+            Some(0 | 1) => self.compiled(rt, g.count, words[0]),
+            _ => self.say_error(rt),
+        }
+    }
+
+    // image HEX
+    pub fn image(&mut self, rt: &impl Print, rest: &[u8]) -> io::Result<()> {
+        match read_given(rest, &mut self.scratch) {
+            Some(g) if g.end == rest.len() => {
+                let image = &mut self.image[..];
+                image[..g.count].copy_from_slice(&self.scratch[..g.count]);
+                self.size = g.count;
+                self.say(rt, b"image", &[g.count as u64])
+            }
+            _ => self.say_error(rt),
+        }
+    }
+
+    // slab WORDS
+    pub fn slab(&mut self, rt: &impl Print, rest: &[u8]) -> io::Result<()> {
+        let Some(n) = one_number(rest, SLAB as u64) else {
+            return self.say_error(rt);
+        };
+        self.lent = Some(n as usize);
+        self.say(rt, b"slab", &[n])
+    }
+
+    // room WORDS
+    pub fn room(&mut self, rt: &impl Print, rest: &[u8]) -> io::Result<()> {
+        let Some(n) = one_number(rest, ROOM as u64) else {
+            return self.say_error(rt);
+        };
+        self.room = Some(n as usize);
+        self.say(rt, b"room", &[n])
+    }
 }

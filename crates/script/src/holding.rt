@@ -1,13 +1,11 @@
 // The commands that show the session's state and put one in its place.
-use crate::session::{Session, put_words, say, say_error};
-use states::{Limit, Mark, MemberState, Next, Publication};
+ghost use Rattle.std.specs.Prelude.{◌≤◌, IfSome};
+
+use crate::session::{MEMBERS, OUT, SLAB, Session, WIDTH, put_words};
+use states::{MemberState, Publication, State};
 use std::io;
-use tags::{Tag, Told};
-
-// The most members, and the slab words of each.
-const MEMBERS: u64 = 32;
-
-const WIDTH: usize = 64;
+use tags::Tag;
+use text::Output;
 
 // The words of a member's line before its tags, the most tags, and the most words.
 const RECORD: usize = 24;
@@ -19,450 +17,183 @@ const MEMBER: usize = 88;
 // The class of an absent tag.
 const ABSENT: u64 = 3;
 
-fn flag(b: bool) -> u64 {
-    if b { 1 } else { 0 }
-}
-
-// Two words.
-fn put_two(rt: &impl Print, out: &mut [u8], at: usize, a: u64, b: u64) -> io::Result<usize> {
-    let next = text::put_item(rt, out, at, a)?;
-    text::put_item(rt, out, next, b)
-}
-
-// Three words.
-fn put_three(
-    rt: &impl Print,
-    out: &mut [u8],
-    at: usize,
-    a: u64,
-    b: u64,
-    c: u64,
-) -> io::Result<usize> {
-    let next = put_two(rt, out, at, a, b)?;
-    text::put_item(rt, out, next, c)
-}
-
 // A tag: class, offset, microstep.
-fn put_tag(rt: &impl Print, out: &mut [u8], at: usize, t: Tag) -> io::Result<usize> {
+fn put_tag(out: &mut Output<OUT>, rt: &impl Print, t: Tag) -> io::Result<()> {
     let w = t.words();
-    put_three(rt, out, at, w.class, w.offset, w.microstep)
+    put_words(out, rt, &[w.class, w.offset, w.microstep])
 }
 
-fn put_limit(rt: &impl Print, out: &mut [u8], at: usize, limit: Limit) -> io::Result<usize> {
+fn put_limit(out: &mut Output<OUT>, rt: &impl Print, limit: Option<Tag>) -> io::Result<()> {
     match limit {
-        Limit::Absent => put_three(rt, out, at, ABSENT, 0, 0),
-        Limit::Upto(t) => put_tag(rt, out, at, t),
+        None => put_words(out, rt, &[ABSENT, 0, 0]),
+        Some(t) => put_tag(out, rt, t),
     }
 }
 
 // Whether a revision is set, and the revision.
-fn put_mark(rt: &impl Print, out: &mut [u8], at: usize, mark: Mark) -> io::Result<usize> {
+fn put_mark(out: &mut Output<OUT>, rt: &impl Print, mark: Option<u64>) -> io::Result<()> {
     match mark {
-        Mark::Unset => put_two(rt, out, at, 0, 0),
-        Mark::At(r) => put_two(rt, out, at, 1, r),
-    }
-}
-
-fn put_next(
-    rt: &impl Print,
-    out: &mut [u8],
-    at: usize,
-    revision: u64,
-    event: Next,
-) -> io::Result<usize> {
-    match event {
-        Next::Quiet => {
-            let quiet = put_two(rt, out, at, 1, revision)?;
-            put_three(rt, out, quiet, ABSENT, 0, 0)
-        }
-        Next::Event(t) => {
-            let event = put_two(rt, out, at, 2, revision)?;
-            put_tag(rt, out, event, t)
-        }
+        None => put_words(out, rt, &[0, 0]),
+        Some(r) => put_words(out, rt, &[1, r]),
     }
 }
 
 // Unpublished, no event or an event; the revision; the event's tag.
 fn put_publication(
+    out: &mut Output<OUT>,
     rt: &impl Print,
-    out: &mut [u8],
-    at: usize,
-    p: Publication,
-) -> io::Result<usize> {
-    match p {
-        Publication::Unpublished => {
-            let none = put_two(rt, out, at, 0, 0)?;
-            put_three(rt, out, none, ABSENT, 0, 0)
-        }
-        Publication::Published(revision, event) => put_next(rt, out, at, revision, event),
+    publication: Option<Publication>,
+) -> io::Result<()> {
+    match publication {
+        None => put_words(out, rt, &[0, 0])?,
+        Some(p) => put_words(out, rt, &[if p.next.is_none() { 1 } else { 2 }, p.revision])?,
     }
-}
-
-// The words of a member's limits: granted, bound, completed.
-fn put_limits(rt: &impl Print, out: &mut [u8], at: usize, m: MemberState) -> io::Result<usize> {
-    let granted = m.granted;
-    let bound = m.bound;
-    let completed = m.completed;
-    let one = put_limit(rt, out, at, granted)?;
-    let two = put_limit(rt, out, one, bound)?;
-    put_limit(rt, out, two, completed)
-}
-
-// The words of a member's revisions for idle.
-fn put_revisions(rt: &impl Print, out: &mut [u8], at: usize, m: MemberState) -> io::Result<usize> {
-    let asked = m.asked;
-    let idle = m.idle;
-    let one = put_mark(rt, out, at, asked)?;
-    put_mark(rt, out, one, idle)
+    put_limit(out, rt, publication.and_then(|p| p.next))
 }
 
 // The words of a member's record.
-fn put_record(rt: &impl Print, out: &mut [u8], at: usize, m: MemberState) -> io::Result<usize> {
-    let publication = m.publication;
-    let revision = m.revision;
-    let joined = text::put_item(rt, out, at, flag(m.joined))?;
-    let published = put_publication(rt, out, joined, publication)?;
-    let grant = put_mark(rt, out, published, revision)?;
-    let limits = put_limits(rt, out, grant, m)?;
-    let revisions = put_revisions(rt, out, limits, m)?;
-    let stopped = text::put_item(rt, out, revisions, flag(m.stopped))?;
-    text::put_item(rt, out, stopped, m.held as u64)
-}
-
-// The tags that member i holds.
-fn put_tags(
-    rt: &impl Print,
-    out: &mut [u8],
-    at: usize,
-    slab: &[u64],
-    i: usize,
-    held: usize,
-) -> io::Result<usize> {
-    if MEMBERS as usize <= i {
-        return Ok(at);
-    }
-    if WIDTH < held {
-        return Ok(at);
-    }
-    let start = WIDTH * i;
-    if slab.len() < start {
-        return Ok(at);
-    }
-    put_words(rt, out, at, &slab[start..], 2 * held)
-}
-
-// A line for member i.
-fn say_member(
-    rt: &impl Print,
-    out: &mut [u8],
-    mut s: Session,
-    slab: &[u64],
-    i: usize,
-    m: MemberState,
-) -> io::Result<Session> {
-    let word = text::put(rt, out, s.at, b"member")?;
-    let index = text::put_item(rt, out, word, i as u64)?;
-    let record = put_record(rt, out, index, m)?;
-    let tags = put_tags(rt, out, record, slab, i, m.held)?;
-    s.at = text::put(rt, out, tags, b"\n")?;
-    Ok(s)
-}
-
-// A line for each member below the count.
-fn say_members(rt: &impl Print, out: &mut [u8], s: Session, slab: &[u64]) -> io::Result<Session> {
-    let state = s.state;
-    let count = state.count;
-    let mut t = s;
-    let mut i: usize = 0;
-    while i < 32 && i < count {
-        let m = state.members[i];
-        t = say_member(rt, out, t, slab, i, m)?;
-        i += 1;
-    }
-    Ok(t)
-}
-
-// The session's four words.
-fn say_state(rt: &impl Print, out: &mut [u8], mut s: Session) -> io::Result<Session> {
-    let state = s.state;
-    let word = text::put(rt, out, s.at, b"state")?;
-    let count = text::put_item(rt, out, word, state.count as u64)?;
-    let identity = text::put_item(rt, out, count, state.identity)?;
-    let cause = put_two(rt, out, identity, state.cause, state.code)?;
-    s.at = text::put(rt, out, cause, b"\n")?;
-    Ok(s)
-}
-
-// dump
-pub fn dump(
-    rt: &impl Print,
-    line: &[u8],
-    from: usize,
-    slab: &[u64],
-    out: &mut [u8],
-    s: Session,
-) -> io::Result<Session> {
-    if from < line.len() {
-        return say_error(rt, out, s);
-    }
-    let t = say_state(rt, out, s)?;
-    say_members(rt, out, t, slab)
-}
-
-// state COUNT IDENTITY CAUSE CODE
-pub fn state(
-    rt: &impl Print,
-    line: &[u8],
-    from: usize,
-    out: &mut [u8],
-    mut s: Session,
-) -> io::Result<Session> {
-    let mut words = [0u64; 4];
-    let n = text::read_numbers(line, from, &mut words);
-    if !n.good {
-        return say_error(rt, out, s);
-    }
-    if n.count != 4 {
-        return say_error(rt, out, s);
-    }
-    if MEMBERS < words[0] {
-        return say_error(rt, out, s);
-    }
-    let mut state = s.state;
-    state.count = words[0] as usize;
-    state.identity = words[1];
-    state.cause = words[2];
-    state.code = words[3];
-    s.state = state;
-    say(rt, out, s, b"state")
-}
-
-// word INDEX VALUE
-pub fn word(
-    rt: &impl Print,
-    line: &[u8],
-    from: usize,
-    slab: &mut [u64],
-    out: &mut [u8],
-    s: Session,
-) -> io::Result<Session> {
-    let mut words = [0u64; 2];
-    let n = text::read_numbers(line, from, &mut words);
-    if !n.good {
-        return say_error(rt, out, s);
-    }
-    if n.count != 2 {
-        return say_error(rt, out, s);
-    }
-    if slab.len() as u64 <= words[0] {
-        return say_error(rt, out, s);
-    }
-    let index = words[0] as usize;
-    slab[index] = words[1];
-    say(rt, out, s, b"word")
-}
-
-// A limit that words say, if they do.
-#[derive(Clone, Copy)]
-struct SaidLimit {
-    good: bool,
-    limit: Limit,
-}
-
-// A revision or none.
-#[derive(Clone, Copy)]
-struct SaidMark {
-    good: bool,
-    mark: Mark,
-}
-
-#[derive(Clone, Copy)]
-struct SaidPublication {
-    good: bool,
-    publication: Publication,
-}
-
-#[derive(Clone, Copy)]
-struct SaidMember {
-    good: bool,
-    member: MemberState,
-}
-
-fn no_limit(good: bool) -> SaidLimit {
-    SaidLimit {
-        good,
-        limit: Limit::Absent,
-    }
+fn put_record(out: &mut Output<OUT>, rt: &impl Print, m: MemberState) -> io::Result<()> {
+    out.put_item(rt, u64::from(m.joined))?;
+    put_publication(out, rt, m.publication)?;
+    put_mark(out, rt, m.revision)?;
+    put_limit(out, rt, m.granted)?;
+    put_limit(out, rt, m.bound)?;
+    put_limit(out, rt, m.completed)?;
+    put_mark(out, rt, m.asked)?;
+    put_mark(out, rt, m.idle)?;
+    put_words(out, rt, &[u64::from(m.stopped), m.held as u64])
 }
 
 // The tag that three words say, or that it is absent.
-fn limit_of(class: u64, offset: u64, microstep: u64) -> SaidLimit {
+fn limit_of(class: u64, offset: u64, microstep: u64) -> Option<Option<Tag>> {
     if class == ABSENT {
-        return no_limit(offset == 0 && microstep == 0);
+        return if offset == 0 && microstep == 0 {
+            Some(None)
+        } else {
+            None
+        };
     }
-    match Tag::told(class, offset, microstep) {
-        Told::Unknown => no_limit(false),
-        Told::Is(t) => SaidLimit {
-            good: true,
-            limit: Limit::Upto(t),
-        },
-    }
+    Some(Some(Tag::told(class, offset, microstep)?))
 }
 
 // The revision that two words say, or that it is not set.
-fn mark_of(set: u64, revision: u64) -> SaidMark {
-    if set == 1 {
-        return SaidMark {
-            good: true,
-            mark: Mark::At(revision),
-        };
-    }
-    SaidMark {
-        good: set == 0 && revision == 0,
-        mark: Mark::Unset,
-    }
-}
-
-fn event_of(revision: u64, limit: Limit) -> SaidPublication {
-    match limit {
-        Limit::Absent => SaidPublication {
-            good: false,
-            publication: Publication::Unpublished,
-        },
-        Limit::Upto(t) => SaidPublication {
-            good: true,
-            publication: Publication::Published(revision, Next::Event(t)),
-        },
+fn mark_of(set: u64, revision: u64) -> Option<Option<u64>> {
+    match set {
+        0 if revision == 0 => Some(None),
+        1 => Some(Some(revision)),
+        _ => None,
     }
 }
 
 // The publication that a kind, a revision and a tag say.
-fn publication_of(
-    kind: u64,
-    revision: u64,
-    class: u64,
-    offset: u64,
-    microstep: u64,
-) -> SaidPublication {
-    let event = limit_of(class, offset, microstep);
-    let absent = event.good && class == ABSENT;
-    if kind == 0 {
-        return SaidPublication {
-            good: absent && revision == 0,
-            publication: Publication::Unpublished,
-        };
-    }
-    if kind == 1 {
-        return SaidPublication {
-            good: absent,
-            publication: Publication::Published(revision, Next::Quiet),
-        };
-    }
-    let said = event_of(revision, event.limit);
-    let publication = said.publication;
-    SaidPublication {
-        good: kind == 2 && event.good && said.good,
-        publication,
+fn publication_of(kind: u64, revision: u64, next: Option<Tag>) -> Option<Option<Publication>> {
+    match (kind, next) {
+        (0, None) if revision == 0 => Some(None),
+        (1, None) | (2, Some(_)) => Some(Some(Publication { revision, next })),
+        _ => None,
     }
 }
 
 // The record that a member's words say.
-fn member_of(w: &[u64; MEMBER]) -> SaidMember {
-    let publication = publication_of(w[2], w[3], w[4], w[5], w[6]);
-    let revision = mark_of(w[7], w[8]);
-    let granted = limit_of(w[9], w[10], w[11]);
-    let bound = limit_of(w[12], w[13], w[14]);
-    let completed = limit_of(w[15], w[16], w[17]);
-    let asked = mark_of(w[18], w[19]);
-    let idle = mark_of(w[20], w[21]);
-    let flags = w[1] <= 1 && w[22] <= 1 && w[23] <= TAGS;
-    let limits = granted.good && bound.good && completed.good;
-    let marks = revision.good && asked.good && idle.good;
-    let member = MemberState {
+fn member_of(w: &[u64; MEMBER]) -> Option<MemberState>
+    ensures { IfSome result (λ m. m.held ≤ 32) }
+{
+    if w[1] > 1 || w[22] > 1 || w[23] > TAGS {
+        return None;
+    }
+    let event = limit_of(w[4], w[5], w[6])?;
+    Some(MemberState {
         joined: w[1] == 1,
-        publication: publication.publication,
-        revision: revision.mark,
-        granted: granted.limit,
-        bound: bound.limit,
-        completed: completed.limit,
+        publication: publication_of(w[2], w[3], event)?,
+        revision: mark_of(w[7], w[8])?,
+        granted: limit_of(w[9], w[10], w[11])?,
+        bound: limit_of(w[12], w[13], w[14])?,
+        completed: limit_of(w[15], w[16], w[17])?,
         held: w[23] as usize,
-        asked: asked.mark,
-        idle: idle.mark,
+        asked: mark_of(w[18], w[19])?,
+        idle: mark_of(w[20], w[21])?,
         stopped: w[22] == 1,
-    };
-    SaidMember {
-        good: flags && limits && marks && publication.good,
-        member,
-    }
+    })
 }
 
-// Puts a member's stretch into the slab: its tags' words, then zeros.
-fn put_stretch(slab: &mut [u64], i: usize, w: &[u64; MEMBER]) {
-    let mut k: usize = 0;
-    while k < WIDTH {
-        store(slab, i, k, w[RECORD + k]);
-        k += 1;
+impl Session {
+    // A line for member i: its record, and the tags that it holds.
+    fn say_member(&mut self, rt: &impl Print, i: usize) -> io::Result<()>
+        requires { i ≤ 31 }
+    {
+        let m = self.state.members[i];
+        self.out.put(rt, b"member")?;
+        self.out.put_item(rt, i as u64)?;
+        put_record(&mut self.out, rt, m)?;
+        if m.held <= WIDTH {
+            let slab = &self.slab[..];
+            let start = WIDTH * i;
+            put_words(&mut self.out, rt, &slab[start..start + 2 * m.held])?;
+        }
+        self.out.put(rt, b"\n")
     }
-}
 
-// Writes word k of a member's stretch.
-fn store(slab: &mut [u64], i: usize, k: usize, value: u64) {
-    if MEMBERS as usize <= i {
-        return;
+    // dump
+    pub fn dump(&mut self, rt: &impl Print, rest: &[u8]) -> io::Result<()> {
+        if !rest.is_empty() {
+            return self.say_error(rt);
+        }
+        let s = self.state;
+        self.say(rt, b"state", &[s.count as u64, s.identity, s.cause, s.code])?;
+        for i in 0..s.count.min(MEMBERS) {
+            self.say_member(rt, i)?;
+        }
+        Ok(())
     }
-    if WIDTH <= k {
-        return;
-    }
-    let at = WIDTH * i + k;
-    if at < slab.len() {
-        slab[at] = value;
-    }
-}
 
-// Replaces a member's record and its stretch.
-fn replaced(
-    rt: &impl Print,
-    slab: &mut [u64],
-    out: &mut [u8],
-    mut s: Session,
-    w: &[u64; MEMBER],
-    m: MemberState,
-) -> io::Result<Session> {
-    let i = w[0] as usize;
-    if 32 <= i {
-        return say_error(rt, out, s);
+    // state COUNT IDENTITY CAUSE CODE
+    pub fn state(&mut self, rt: &impl Print, rest: &[u8]) -> io::Result<()> {
+        let mut words = [0u64; 4];
+        let said = text::read_numbers(rest, 0, &mut words);
+        if said != Some(4) || words[0] > MEMBERS as u64 {
+            return self.say_error(rt);
+        }
+        self.state = State {
+            count: words[0] as usize,
+            identity: words[1],
+            cause: words[2],
+            code: words[3],
+            ..self.state
+        };
+        self.say(rt, b"state", &[])
     }
-    put_stretch(slab, i, w);
-    let mut state = s.state;
-    state.members[i] = m;
-    s.state = state;
-    say(rt, out, s, b"member")
-}
 
-// member I and the words of its record
-pub fn member(
-    rt: &impl Print,
-    line: &[u8],
-    from: usize,
-    slab: &mut [u64],
-    out: &mut [u8],
-    s: Session,
-) -> io::Result<Session> {
-    let mut words = [0u64; MEMBER];
-    let n = text::read_numbers(line, from, &mut words);
-    let said = member_of(&words);
-    if !n.good {
-        return say_error(rt, out, s);
+    // word INDEX VALUE
+    pub fn word(&mut self, rt: &impl Print, rest: &[u8]) -> io::Result<()> {
+        let mut words = [0u64; 2];
+        let said = text::read_numbers(rest, 0, &mut words);
+        if said != Some(2) || words[0] >= SLAB as u64 {
+            return self.say_error(rt);
+        }
+        self.slab[words[0] as usize] = words[1];
+        self.say(rt, b"word", &[])
     }
-    if !said.good {
-        return say_error(rt, out, s);
+
+    // Replaces the record of member i, and its stretch of the slab: its tags' words, then zeros.
+    fn replace(&mut self, i: usize, m: MemberState, w: &[u64; MEMBER])
+        requires { i ≤ 31 }
+    {
+        self.state.members[i] = m;
+        let start = WIDTH * i;
+        let slab = &mut self.slab[..];
+        slab[start..start + WIDTH].copy_from_slice(&w[RECORD..]);
     }
-    let member = said.member;
-    if member.held > TAGS as usize {
-        return say_error(rt, out, s);
+
+    // member I and the words of its record
+    pub fn member(&mut self, rt: &impl Print, rest: &[u8]) -> io::Result<()> {
+        let mut words = [0u64; MEMBER];
+        let said = text::read_numbers(rest, 0, &mut words);
+        match member_of(&words) {
+            Some(m) if said == Some(RECORD + 2 * m.held) && words[0] < MEMBERS as u64 => {
+                self.replace(words[0] as usize, m, &words);
+                self.say(rt, b"member", &[])
+            }
+            _ => self.say_error(rt),
+        }
     }
-    if n.count != RECORD + 2 * member.held {
-        return say_error(rt, out, s);
-    }
-    replaced(rt, slab, out, s, &words, member)
 }

@@ -1,7 +1,8 @@
 // The commands about closed walks without delay, and about paths that attain a minimum delay.
 use crate::compiling::read_given;
-use crate::session::{Session, put_words, say, say_error, say_refusal};
-use routes::{Found, Walk};
+use crate::session::{Session, put_words};
+use plans::Refusal;
+use routes::Walk;
 use std::io;
 
 // The most edges of a walk, and the words of a check: how many there are, then each.
@@ -9,155 +10,68 @@ const EDGES: usize = 32;
 
 const WORDS: usize = 33;
 
-// The first n edges.
-fn put_edges(
-    rt: &impl Print,
-    out: &mut [u8],
-    at: usize,
-    edges: &[u64; EDGES],
-    n: usize,
-) -> io::Result<usize> {
-    put_words(rt, out, at, edges, n)
-}
+impl Session {
+    // A walk that was found, or why not.
+    fn say_found(
+        &mut self,
+        rt: &impl Print,
+        name: &[u8],
+        found: Result<Walk, Refusal>,
+    ) -> io::Result<()> {
+        match found {
+            Ok(w) => {
+                self.out.put(rt, name)?;
+                self.out.put_item(rt, w.count as u64)?;
+                put_words(&mut self.out, rt, &w.edges[..w.count.min(EDGES)])?;
+                self.out.put(rt, b"\n")
+            }
+            Err(r) => self.say_refusal(rt, r),
+        }
+    }
 
-// A walk that was found, or why not.
-fn say_found(
-    rt: &impl Print,
-    out: &mut [u8],
-    mut s: Session,
-    name: &[u8],
-    f: Found,
-) -> io::Result<Session> {
-    let refusal = f.refusal;
-    if refusal.number != 0 {
-        return say_refusal(rt, out, s, refusal);
+    // witness HEX
+    pub fn witness(&mut self, rt: &impl Print, rest: &[u8]) -> io::Result<()> {
+        match read_given(rest, &mut self.scratch) {
+            Some(g) if g.end == rest.len() => {
+                let found = routes::witness(&self.scratch[..g.count]);
+                self.say_found(rt, b"witness", found)
+            }
+            _ => self.say_error(rt),
+        }
     }
-    let count = f.count;
-    let edges = f.edges;
-    let word = text::put(rt, out, s.at, name)?;
-    let total = text::put_item(rt, out, word, count as u64)?;
-    let listed = put_edges(rt, out, total, &edges, count)?;
-    s.at = text::put(rt, out, listed, b"\n")?;
-    Ok(s)
-}
 
-// A closed walk without delay.
-fn say_witness(rt: &impl Print, plan: &[u8], out: &mut [u8], s: Session) -> io::Result<Session> {
-    let found = routes::witness(plan);
-    say_found(rt, out, s, b"witness", found)
-}
+    // check HEX COUNT E..
+    pub fn check(&mut self, rt: &impl Print, rest: &[u8]) -> io::Result<()> {
+        let Some(g) = read_given(rest, &mut self.scratch) else {
+            return self.say_error(rt);
+        };
+        let mut words = [0u64; WORDS];
+        let count = match text::read_numbers(rest, g.end, &mut words) {
+            Some(n) if 0 < n && words[0] == (n - 1) as u64 => n - 1,
+            _ => return self.say_error(rt),
+        };
+        let mut edges = [0u64; EDGES];
+        edges.copy_from_slice(&words[1..]);
+        let walk = Walk { count, edges };
+        if routes::check_witness(&self.scratch[..g.count], walk) {
+            self.say(rt, b"check yes", &[])
+        } else {
+            self.say(rt, b"check no", &[])
+        }
+    }
 
-// witness HEX
-pub fn witness(
-    rt: &impl Print,
-    line: &[u8],
-    from: usize,
-    scratch: &mut [u8],
-    out: &mut [u8],
-    s: Session,
-) -> io::Result<Session> {
-    let g = read_given(line, from, scratch);
-    if !g.good {
-        return say_error(rt, out, s);
+    // path HEX FROM TO
+    pub fn path(&mut self, rt: &impl Print, rest: &[u8]) -> io::Result<()> {
+        let Some(g) = read_given(rest, &mut self.scratch) else {
+            return self.say_error(rt);
+        };
+        let mut words = [0u64; 2];
+        match text::read_numbers(rest, g.end, &mut words) {
+            Some(2) => {
+                let found = routes::path(&self.scratch[..g.count], words[0], words[1]);
+                self.say_found(rt, b"path", found)
+            }
+            _ => self.say_error(rt),
+        }
     }
-    if g.end < line.len() {
-        return say_error(rt, out, s);
-    }
-    let count = g.count;
-    say_witness(rt, &scratch[0..count], out, s)
-}
-
-// The edges that follow their number.
-fn edges_of(words: &[u64; WORDS]) -> [u64; EDGES] {
-    let mut edges = [0u64; EDGES];
-    let mut k: usize = 0;
-    while k < EDGES {
-        edges[k] = words[k + 1];
-        k += 1;
-    }
-    edges
-}
-
-// Whether the walk is a closed one without delay of the plan.
-fn say_checked(
-    rt: &impl Print,
-    plan: &[u8],
-    count: usize,
-    words: &[u64; WORDS],
-    out: &mut [u8],
-    s: Session,
-) -> io::Result<Session> {
-    let edges = edges_of(words);
-    let walk = Walk { count, edges };
-    if routes::check_witness(plan, walk) {
-        return say(rt, out, s, b"check yes");
-    }
-    say(rt, out, s, b"check no")
-}
-
-// check HEX COUNT E..
-pub fn check_walk(
-    rt: &impl Print,
-    line: &[u8],
-    from: usize,
-    scratch: &mut [u8],
-    out: &mut [u8],
-    s: Session,
-) -> io::Result<Session> {
-    let g = read_given(line, from, scratch);
-    let mut words = [0u64; WORDS];
-    let n = text::read_numbers(line, g.end, &mut words);
-    if !g.good {
-        return say_error(rt, out, s);
-    }
-    if !n.good {
-        return say_error(rt, out, s);
-    }
-    if n.count == 0 {
-        return say_error(rt, out, s);
-    }
-    let edges = n.count - 1;
-    if words[0] != edges as u64 {
-        return say_error(rt, out, s);
-    }
-    let count = g.count;
-    say_checked(rt, &scratch[0..count], edges, &words, out, s)
-}
-
-// A path that attains the minimum delay.
-fn say_path(
-    rt: &impl Print,
-    plan: &[u8],
-    from: u64,
-    to: u64,
-    out: &mut [u8],
-    s: Session,
-) -> io::Result<Session> {
-    let found = routes::path(plan, from, to);
-    say_found(rt, out, s, b"path", found)
-}
-
-// path HEX FROM TO
-pub fn path(
-    rt: &impl Print,
-    line: &[u8],
-    from: usize,
-    scratch: &mut [u8],
-    out: &mut [u8],
-    s: Session,
-) -> io::Result<Session> {
-    let g = read_given(line, from, scratch);
-    let mut words = [0u64; 2];
-    let n = text::read_numbers(line, g.end, &mut words);
-    if !g.good {
-        return say_error(rt, out, s);
-    }
-    if !n.good {
-        return say_error(rt, out, s);
-    }
-    if n.count != 2 {
-        return say_error(rt, out, s);
-    }
-    let count = g.count;
-    say_path(rt, &scratch[0..count], words[0], words[1], out, s)
 }

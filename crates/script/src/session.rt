@@ -1,9 +1,8 @@
 // What a script holds between its lines, and the answers that every command shares.
-ghost use Rattle.std.specs.Prelude.{◌≤◌};
-
 use plans::Refusal;
 use states::State;
 use std::io;
+use text::Output;
 
 // The most bytes of a compiled plan that a line can say.
 pub const BYTES: usize = 32800;
@@ -16,99 +15,72 @@ pub const SLAB: usize = 2112;
 
 pub const ROOM: usize = 512;
 
-// More than a command can lend: as many words as the compiled plan in use asks for.
-pub const AS_ASKED: usize = 4096;
+// The most members, and the slab words of each.
+pub const MEMBERS: usize = 32;
 
-// What a script holds, besides its buffers.
-#[derive(Clone, Copy)]
+pub const WIDTH: usize = 64;
+
+// What a script holds.
+#[derive(Drop)]
 pub struct Session {
-    pub state: State,
-    // bytes of the compiled plan in use
+    // the bytes that a line says
+    pub scratch: [u8; BYTES],
+    // the compiled plan in use, at the start of the image, and its bytes
+    pub image: [u8; BYTES],
     pub size: usize,
-    // slab words and delivery words that are lent to a call
-    pub lent: usize,
-    pub room: usize,
+    pub slab: [u64; SLAB],
+    pub state: State,
+    // slab words and delivery words that are lent to a call; where no command said, as many as the compiled plan in use asks for
+    pub lent: Option<usize>,
+    pub room: Option<usize>,
     // the number of the line, from 1
     pub line: u64,
-    // where the gathered answers end
-    pub at: usize,
+    pub out: Output<OUT>,
 }
 
-// Before the first line: no compiled plan, a session of no members, and no command has said how much is lent.
-pub fn start() -> Session {
-    Session {
-        state: states::fresh(0, 0),
-        size: 0,
-        lent: AS_ASKED,
-        room: AS_ASKED,
-        line: 0,
-        at: 0,
+// Words, each after a space.
+pub fn put_words(out: &mut Output<OUT>, rt: &impl Print, words: &[u64]) -> io::Result<()> {
+    for word in words {
+        out.put_item(rt, *word)?;
     }
+    Ok(())
 }
 
-// The lesser of two numbers, the second a length.
-pub fn least(a: u64, b: usize) -> usize
-    ensures { result ≤ b }
-{
-    if a < b as u64 { a as usize } else { b }
-}
-
-// A word that ends its line.
-pub fn say(rt: &impl Print, out: &mut [u8], mut s: Session, word: &[u8]) -> io::Result<Session> {
-    let next = text::put(rt, out, s.at, word)?;
-    s.at = text::put(rt, out, next, b"\n")?;
-    Ok(s)
-}
-
-// A word and a number.
-pub fn say_number(
-    rt: &impl Print,
-    out: &mut [u8],
-    mut s: Session,
-    word: &[u8],
-    n: u64,
-) -> io::Result<Session> {
-    let one = text::put(rt, out, s.at, word)?;
-    let two = text::put_item(rt, out, one, n)?;
-    s.at = text::put(rt, out, two, b"\n")?;
-    Ok(s)
-}
-
-// The line cannot be read.
-pub fn say_error(rt: &impl Print, out: &mut [u8], s: Session) -> io::Result<Session> {
-    let line = s.line;
-    say_number(rt, out, s, b"error", line)
-}
-
-// A refusal, with what it gives.
-pub fn say_refusal(
-    rt: &impl Print,
-    out: &mut [u8],
-    mut s: Session,
-    r: Refusal,
-) -> io::Result<Session> {
-    let word = text::put(rt, out, s.at, b"refused")?;
-    let number = text::put_item(rt, out, word, r.number)?;
-    let mask = text::put_item(rt, out, number, r.mask)?;
-    let first = text::put_item(rt, out, mask, r.first)?;
-    let second = text::put_item(rt, out, first, r.second)?;
-    s.at = text::put(rt, out, second, b"\n")?;
-    Ok(s)
-}
-
-// The first n of some words, each after a space.
-pub fn put_words(
-    rt: &impl Print,
-    out: &mut [u8],
-    at: usize,
-    words: &[u64],
-    n: usize,
-) -> io::Result<usize> {
-    let mut next = at;
-    let mut k: usize = 0;
-    while k < words.len() && k < n {
-        next = text::put_item(rt, out, next, words[k])?;
-        k += 1;
+impl Session {
+    // Before the first line: no compiled plan, a session of no members, and no command has said how much is lent.
+    pub fn new() -> Session {
+        Session {
+            scratch: [0; BYTES],
+            image: [0; BYTES],
+            size: 0,
+            slab: [0; SLAB],
+            state: states::fresh(0, 0),
+            lent: None,
+            room: None,
+            line: 0,
+            out: Output::new(),
+        }
     }
-    Ok(next)
+
+    // A line: a name, and words after it.
+    pub fn say(&mut self, rt: &impl Print, name: &[u8], words: &[u64]) -> io::Result<()> {
+        self.out.put(rt, name)?;
+        put_words(&mut self.out, rt, words)?;
+        self.out.put(rt, b"\n")
+    }
+
+    // The line cannot be read.
+    pub fn say_error(&mut self, rt: &impl Print) -> io::Result<()> {
+        let line = self.line;
+        self.say(rt, b"error", &[line])
+    }
+
+    // A refusal, with what it gives.
+    pub fn say_refusal(&mut self, rt: &impl Print, r: Refusal) -> io::Result<()> {
+        self.say(
+            rt,
+            b"refused",
+            &[r.number(), r.mask(), r.first(), r.second()],
+        )
+    }
 }

@@ -13,8 +13,7 @@ use borrow.Author.Tests.{eq-eqb, leb-true, leb-false}
 use Rattle.basis.specs.Choice.{pick, not, both}
 use Rattle.tags.proofs.Order.{clash}
 use Rattle.plans.specs.Nets.{Net, downstream}
-use Rattle.states.specs.declared.Mark.{Mark}
-use Rattle.states.specs.declared.Mark.TheVariants.{Unset, At}
+use Rattle.std.specs.Prelude.{Option, Some, None}
 use Rattle.states.specs.declared.Request.{Request}
 use Rattle.states.specs.declared.Request.TheVariants.{Hello, Publish, Complete, Payload, ConfirmIdle, Stop, Abort}
 use Rattle.states.specs.declared.Delivery.{Delivery}
@@ -76,11 +75,11 @@ unfolding grants
 grants-count p k o l = omega (arith, (visits-count p k (visit (granting p) o k) p.count).1 l, visit-count (granting p) o k)
 
 -- ---- where Idle goes out, no bound does
-pub inactive : (b : Bool) (k : Mark) (r : ℕ) → both (not b) (not (mark_is k r)) ≡ false → both (not (is_set k)) (not b) ≡ false
-inactive true Unset r e = refl
-inactive true (At q) r e = refl
-inactive false Unset r e = clash (sym e)
-inactive false (At q) r e = refl
+pub inactive : (b : Bool) (k : Option ℕ) (r : ℕ) → both (not b) (not (mark_is k r)) ≡ false → both (not (is_set k)) (not b) ≡ false
+inactive true None r e = refl
+inactive true (Some q) r e = refl
+inactive false None r e = clash (sym e)
+inactive false (Some q) r e = refl
 
 abbrev pub Off : Out → ℕ → Type 0
 Off o i = active (view o.session i) ≡ false

@@ -16,9 +16,7 @@ use Rattle.tags.proofs.Order.{clash, trans}
 use Rattle.plans.specs.Nets.{Net}
 use Rattle.transit.specs.Tags.{insert, after}
 use Rattle.transit.proofs.Lists.{after-length, after-rising, insert-rising, insert-room}
-use Rattle.states.specs.declared.Next.{Next}
-use Rattle.states.specs.declared.Next.TheVariants.{Quiet, Event}
-use Rattle.states.specs.declared.Publication.TheVariants.{Published}
+use Rattle.std.specs.Prelude.{Option, Some, None}
 use Rattle.states.specs.declared.Request.{Request}
 use Rattle.states.specs.Sessions.{Member, Session, or_never, blank, fresh, view}
 use Rattle.states.specs.Rules.{is_set}
@@ -49,10 +47,10 @@ insert-words t (x ∷ xs) h hs =
     (hs.0, insert-words t xs h hs.1)
 
 -- ---- what the refusals leave
-pub good-event : (m : Member) (r : ℕ) (e : Next) → FitsNext e → bad_publication m r e ≡ false → WordNext (Published r e)
+pub good-event : (m : Member) (r : ℕ) (e : Option Tag) → FitsNext e → bad_publication m r e ≡ false → WordNext (Some (record { revision = r; next = e }))
 unfolding bad_publication any
-good-event m r Quiet a b = tt
-good-event m r (Event t) a b = word t a (not_false (finite t) (either_false (not (finite t)) _ b).0)
+good-event m r None a b = tt
+good-event m r (Some t) a b = word t a (not_false (finite t) (either_false (not (finite t)) _ b).0)
 
 pub good-completion : (m : Member) (t : Tag) → bad_completion m t ≡ false → (finite t ≡ true) × Le t (or_never m.granted)
 unfolding bad_completion any

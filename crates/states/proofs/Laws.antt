@@ -8,12 +8,13 @@ use mathlib.Core.Bool.{Bool, true, false}
 use mathlib.Core.Logic.{◌⊎◌, inl, inr, ⊎_elim}
 use lib.Dec.{ltb, eqb}
 use borrow.Author.Tests.{ltb-true, ltb-false, eqb-true, eqb-false, ne_eqb}
-use Rattle.basis.specs.Choice.{pick, not, either}
+use Rattle.basis.specs.Choice.{not, either}
 use Rattle.tags.specs.declared.Tag.{Tag}
 use Rattle.tags.specs.declared.Tag.TheVariants.{Never, Finite, Forever}
 use Rattle.tags.specs.Tags.{lex_le, tag_le, pred_of, delayed, least_of, greatest_of}
 use Rattle.tags.proofs.Order.{clash, Lex, lex, trans, reflexive, total, antisymmetric, forever-greatest, least-left, least-right}
 use Rattle.tags.proofs.Laws.{Small, pred_greatest, pred_before}
+pub use Rattle.transit.proofs.Lists.{picked}
 use Rattle.states.specs.Rules.{least_to}
 
 -- x at or before y; x before y
@@ -22,11 +23,6 @@ Le x y = tag_le x y ≡ true
 
 abbrev pub Lt : Tag → Tag → Type 0
 Lt x y = tag_le y x ≡ false
-
--- what holds of both holds of the one picked
-pub picked {ℓ} : {A : Type 0} (P : A → Type ℓ) (b : Bool) (x y : A) → P x → P y → P (pick b x y)
-picked P true x y p q = p
-picked P false x y p q = q
 
 -- ---- tests
 pub either_false : (a b : Bool) → either a b ≡ false → (a ≡ false) × (b ≡ false)

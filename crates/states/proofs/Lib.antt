@@ -3,3 +3,4 @@ pub mod Passes
 pub mod Memberwise
 pub mod Formed
 pub mod Counts
+pub mod Every

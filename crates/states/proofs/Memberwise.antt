@@ -11,7 +11,7 @@ use Rattle.tags.specs.declared.Tag.{Tag}
 use Rattle.tags.specs.Tags.{greatest_of}
 use Rattle.plans.specs.Nets.{Net, downstream}
 use Rattle.transit.specs.Tags.{insert, after, full}
-use Rattle.states.specs.declared.Next.{Next}
+use Rattle.std.specs.Prelude.{Option}
 use Rattle.states.specs.declared.Request.{Request}
 use Rattle.states.specs.declared.Request.TheVariants.{Hello, Publish, Complete, Payload, ConfirmIdle, Stop, Abort}
 use Rattle.states.specs.Sessions.{Member, Session, or_never, blank, view, put, with_cause, with_joined, with_grant, with_bound, with_completed, with_transit, with_asked, with_idle, with_stopped}
@@ -25,7 +25,7 @@ use Rattle.states.proofs.Passes.{put_all, each_keeps}
 pub record Kept (p : Net) (Q : ℕ → Member → Type 0) : Type 0 where
   pub born : (i : ℕ) → Q i blank
   pub joins : (i : ℕ) (m : Member) → Q i m → Q i (with_joined m)
-  pub publishes : (i : ℕ) (m : Member) (r : ℕ) (e : Next) → FitsNext e → bad_publication m r e ≡ false → Q i m → Q i (publishing m r e)
+  pub publishes : (i : ℕ) (m : Member) (r : ℕ) (e : Option Tag) → FitsNext e → bad_publication m r e ≡ false → Q i m → Q i (publishing m r e)
   pub completes : (i : ℕ) (m : Member) (t : Tag) → Fits t → bad_completion m t ≡ false → Q i m → Q i (with_completed m t (after t m.transit))
   pub receives : (i : ℕ) (m : Member) (t : Tag) → Fits t → finite t ≡ true → bad_target m t ≡ false → full (p.capacity i) t m.transit ≡ false → Q i m → Q i (with_transit m (insert t m.transit))
   pub asks : (i : ℕ) (m : Member) (r : ℕ) → Q i m → Q i (with_asked m r)

@@ -1,17 +1,12 @@
 -- Well formed (refusal 14), and what a request's words and refusal 17 leave of its tags.
 -- Assumes nothing.
-use Rattle.std.specs.Prelude.{ℕ, ◌<◌, ◌≤◌, ◌≡◌, true, List, [], ◌∷◌, length}
+use Rattle.std.specs.Prelude.{ℕ, ◌<◌, ◌≤◌, ◌≡◌, true, List, [], ◌∷◌, length, Option, Some, None}
 use Rattle.tags.specs.declared.Tag.{Tag}
 use Rattle.tags.specs.declared.Tag.TheVariants.{Never, Finite, Forever}
 use Rattle.tags.specs.Tags.{tag_le, top}
 use Rattle.plans.specs.Nets.{Net}
 use Rattle.transit.specs.Tags.{limit, Rising}
-use Rattle.states.specs.declared.Next.{Next}
-use Rattle.states.specs.declared.Next.TheVariants.{Quiet, Event}
 use Rattle.states.specs.declared.Publication.{Publication}
-use Rattle.states.specs.declared.Publication.TheVariants.{Unpublished, Published}
-use Rattle.states.specs.declared.Limit.{Limit}
-use Rattle.states.specs.declared.Limit.TheVariants.{Absent, Upto}
 use Rattle.states.specs.declared.Request.{Request}
 use Rattle.states.specs.declared.Request.TheVariants.{Hello, Publish, Complete, Payload, ConfirmIdle, Stop, Abort}
 use Rattle.states.specs.Sessions.{Member, Session, or_never, view}
@@ -24,9 +19,9 @@ Fits Never = Unit {0}
 Fits (Finite o m) = (o ≤ limit) × (m ≤ top)
 Fits Forever = Unit {0}
 
-abbrev pub FitsNext : Next → Type 0
-FitsNext Quiet = Unit {0}
-FitsNext (Event t) = Fits t
+abbrev pub FitsNext : Option Tag → Type 0
+FitsNext None = Unit {0}
+FitsNext (Some t) = Fits t
 
 abbrev pub FitsRequest : Request → Type 0
 FitsRequest (Hello d) = Unit {0}
@@ -44,14 +39,13 @@ Word Never = ⊥
 Word (Finite o m) = (o ≤ limit) × (m ≤ top)
 Word Forever = ⊥
 
-abbrev pub WordNext : Publication → Type 0
-WordNext Unpublished = Unit {0}
-WordNext (Published r Quiet) = Unit {0}
-WordNext (Published r (Event t)) = Word t
+abbrev pub WordLimit : Option Tag → Type 0
+WordLimit None = Unit {0}
+WordLimit (Some t) = Word t
 
-abbrev pub WordLimit : Limit → Type 0
-WordLimit Absent = Unit {0}
-WordLimit (Upto t) = Word t
+abbrev pub WordNext : Option Publication → Type 0
+WordNext None = Unit {0}
+WordNext (Some p) = WordLimit p.next
 
 abbrev pub Words : List Tag → Type 0
 Words [] = Unit {0}

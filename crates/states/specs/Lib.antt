@@ -1,3 +1,4 @@
+pub mod Causes
 pub mod Records
 pub mod Sessions
 pub mod Rules

@@ -1,26 +1,22 @@
 -- Earliest, horizon, bound, and when a grant is due. A rule reads the members as a function of their position.
 -- Assumes nothing.
-use Rattle.std.specs.Prelude.{ℕ, zero, suc, Bool, true, false, ltb, eqb}
+use Rattle.std.specs.Prelude.{ℕ, zero, suc, Bool, true, false, ltb, eqb, Option, Some, None}
 use Rattle.basis.specs.Choice.{pick, not, both, either}
 use Rattle.tags.specs.declared.Tag.{Tag}
 use Rattle.tags.specs.declared.Tag.TheVariants.{Never, Forever}
 use Rattle.tags.specs.Tags.{tag_le, tag_before, least_of, greatest_of, delayed, pred_of, less_of}
 use Rattle.plans.specs.Nets.{Net, none, downstream}
 use Rattle.transit.specs.Tags.{first_of}
-use Rattle.states.specs.declared.Next.TheVariants.{Quiet, Event}
 use Rattle.states.specs.declared.Publication.{Publication}
-use Rattle.states.specs.declared.Publication.TheVariants.{Unpublished, Published}
-use Rattle.states.specs.declared.Mark.{Mark}
-use Rattle.states.specs.declared.Mark.TheVariants.{Unset, At}
 use Rattle.states.specs.Sessions.{Member, or_never}
 
-abbrev pub is_set : Mark → Bool
-is_set Unset = false
-is_set (At r) = true
+abbrev pub is_set : Option ℕ → Bool
+is_set None = false
+is_set (Some r) = true
 
-abbrev pub mark_is : Mark → ℕ → Bool
-mark_is Unset r = false
-mark_is (At q) r = eqb q r
+abbrev pub mark_is : Option ℕ → ℕ → Bool
+mark_is None r = false
+mark_is (Some q) r = eqb q r
 
 -- neither idle nor stopped
 abbrev pub active : Member → Bool
@@ -31,11 +27,15 @@ unfoldable pub least_to : ℕ → (ℕ → Tag) → Tag
 least_to zero f = Forever
 least_to (suc k) f = least_of (least_to k f) (f k)
 
+-- none FOREVER
+abbrev pub expected : Option Tag → Tag
+expected None = Forever
+expected (Some t) = t
+
 -- unpublished NEVER, none FOREVER
-abbrev pub awaited : Publication → Tag
-awaited Unpublished = Never
-awaited (Published r Quiet) = Forever
-awaited (Published r (Event t)) = t
+abbrev pub awaited : Option Publication → Tag
+awaited None = Never
+awaited (Some p) = expected p.next
 
 -- Earliest: least of the publication and the first in-transit tag.
 unfoldable pub earliest : Member → Tag
@@ -68,21 +68,27 @@ unfoldable pub horizon : Net → (ℕ → Member) → ℕ → Tag
 horizon p v j = greatest_of (greatest_of (arrivals p v j) (completions p v j)) (or_never (v j).granted)
 
 -- Granted if an event is published, neither idle nor stopped, horizon not before the event, and the revision is new or the horizon grows.
-unfoldable pub due : Publication → Member → Tag → Bool
-due Unpublished m h = false
-due (Published r Quiet) m h = false
-due (Published r (Event e)) m h = both (active m) (both (tag_le e h) (either (not (mark_is m.revision r)) (tag_before (or_never m.granted) h)))
+abbrev pub due_at : ℕ → Option Tag → Member → Tag → Bool
+due_at r None m h = false
+due_at r (Some e) m h = both (active m) (both (tag_le e h) (either (not (mark_is m.revision r)) (tag_before (or_never m.granted) h)))
 
-abbrev pub revision_of : Publication → ℕ
-revision_of Unpublished = 0
-revision_of (Published r e) = r
+unfoldable pub due : Option Publication → Member → Tag → Bool
+due None m h = false
+due (Some p) m h = due_at p.revision p.next m h
+
+abbrev pub revision_of : Option Publication → ℕ
+revision_of None = 0
+revision_of (Some p) = p.revision
 
 -- least, over downstream members, of their earliest less the minimum delay to them
 unfoldable pub bound_of : Net → (ℕ → Member) → ℕ → Tag
 bound_of p v i = least_to p.count (λ j. pick (downstream p i j) (less_of (earliest (v j)) (p.minimum i j)) Forever)
 
 -- sent if it drops below the last sent, or rises and an event not after it is published
-unfoldable pub useful : Publication → Tag → Tag → Bool
-useful Unpublished old new = false
-useful (Published r Quiet) old new = tag_before new old
-useful (Published r (Event e)) old new = either (tag_before new old) (both (tag_before old new) (tag_le e new))
+abbrev pub useful_for : Option Tag → Tag → Tag → Bool
+useful_for None old new = tag_before new old
+useful_for (Some e) old new = either (tag_before new old) (both (tag_before old new) (tag_le e new))
+
+unfoldable pub useful : Option Publication → Tag → Tag → Bool
+useful None old new = false
+useful (Some p) old new = useful_for p.next old new

@@ -1,25 +1,20 @@
 -- A session: its members in order, each with its tags in transit, the identity that they have to name, and what ended it.
 -- Assumes nothing.
-use Rattle.std.specs.Prelude.{ℕ, Bool, true, false, List, [], get_or, set, replicate}
+use Rattle.std.specs.Prelude.{ℕ, Bool, true, false, List, [], get_or, set, replicate, Option, Some, None}
 use Rattle.tags.specs.declared.Tag.{Tag}
 use Rattle.tags.specs.declared.Tag.TheVariants.{Never}
 use Rattle.states.specs.declared.Publication.{Publication}
-use Rattle.states.specs.declared.Publication.TheVariants.{Unpublished}
-use Rattle.states.specs.declared.Mark.{Mark}
-use Rattle.states.specs.declared.Mark.TheVariants.{Unset, At}
-use Rattle.states.specs.declared.Limit.{Limit}
-use Rattle.states.specs.declared.Limit.TheVariants.{Absent, Upto}
 
 -- a member's record, with its tags in the place of their number
 pub record Member : Type 0 where
   pub joined : Bool
-  pub publication : Publication
-  pub revision : Mark
-  pub granted : Limit
-  pub bound : Limit
-  pub completed : Limit
-  pub asked : Mark
-  pub idle : Mark
+  pub publication : Option Publication
+  pub revision : Option ℕ
+  pub granted : Option Tag
+  pub bound : Option Tag
+  pub completed : Option Tag
+  pub asked : Option ℕ
+  pub idle : Option ℕ
   pub stopped : Bool
   pub transit : List Tag
 
@@ -31,16 +26,16 @@ pub record Session : Type 0 where
 
 -- Blank is what opening gives a member.
 abbrev pub blank : Member
-blank = record { joined = false; publication = Unpublished; revision = Unset; granted = Absent; bound = Absent; completed = Absent; asked = Unset; idle = Unset; stopped = false; transit = [] }
+blank = record { joined = false; publication = None; revision = None; granted = None; bound = None; completed = None; asked = None; idle = None; stopped = false; transit = [] }
 
 -- Opening gives a fresh state.
 abbrev pub fresh : ℕ → ℕ → Session
 fresh n identity = record { members = replicate n blank; identity = identity; cause = 0; code = 0 }
 
 -- absent: NEVER
-abbrev pub or_never : Limit → Tag
-or_never Absent = Never
-or_never (Upto t) = t
+abbrev pub or_never : Option Tag → Tag
+or_never None = Never
+or_never (Some t) = t
 
 -- ---- one member read, one member replaced
 abbrev pub view : Session → ℕ → Member
@@ -56,26 +51,26 @@ with_cause s cause code = record { members = s.members; identity = s.identity; c
 abbrev pub with_joined : Member → Member
 with_joined m = record { joined = true; publication = m.publication; revision = m.revision; granted = m.granted; bound = m.bound; completed = m.completed; asked = m.asked; idle = m.idle; stopped = m.stopped; transit = m.transit }
 
-abbrev pub with_publication : Member → Publication → Mark → Member
+abbrev pub with_publication : Member → Option Publication → Option ℕ → Member
 with_publication m p q = record { joined = m.joined; publication = p; revision = m.revision; granted = m.granted; bound = m.bound; completed = m.completed; asked = q; idle = m.idle; stopped = m.stopped; transit = m.transit }
 
 abbrev pub with_grant : Member → ℕ → Tag → Member
-with_grant m r t = record { joined = m.joined; publication = m.publication; revision = At r; granted = Upto t; bound = m.bound; completed = m.completed; asked = m.asked; idle = m.idle; stopped = m.stopped; transit = m.transit }
+with_grant m r t = record { joined = m.joined; publication = m.publication; revision = Some r; granted = Some t; bound = m.bound; completed = m.completed; asked = m.asked; idle = m.idle; stopped = m.stopped; transit = m.transit }
 
 abbrev pub with_bound : Member → Tag → Member
-with_bound m t = record { joined = m.joined; publication = m.publication; revision = m.revision; granted = m.granted; bound = Upto t; completed = m.completed; asked = m.asked; idle = m.idle; stopped = m.stopped; transit = m.transit }
+with_bound m t = record { joined = m.joined; publication = m.publication; revision = m.revision; granted = m.granted; bound = Some t; completed = m.completed; asked = m.asked; idle = m.idle; stopped = m.stopped; transit = m.transit }
 
 abbrev pub with_completed : Member → Tag → List Tag → Member
-with_completed m t ts = record { joined = m.joined; publication = m.publication; revision = m.revision; granted = m.granted; bound = m.bound; completed = Upto t; asked = m.asked; idle = m.idle; stopped = m.stopped; transit = ts }
+with_completed m t ts = record { joined = m.joined; publication = m.publication; revision = m.revision; granted = m.granted; bound = m.bound; completed = Some t; asked = m.asked; idle = m.idle; stopped = m.stopped; transit = ts }
 
 abbrev pub with_transit : Member → List Tag → Member
 with_transit m ts = record { joined = m.joined; publication = m.publication; revision = m.revision; granted = m.granted; bound = m.bound; completed = m.completed; asked = m.asked; idle = m.idle; stopped = m.stopped; transit = ts }
 
 abbrev pub with_asked : Member → ℕ → Member
-with_asked m r = record { joined = m.joined; publication = m.publication; revision = m.revision; granted = m.granted; bound = m.bound; completed = m.completed; asked = At r; idle = m.idle; stopped = m.stopped; transit = m.transit }
+with_asked m r = record { joined = m.joined; publication = m.publication; revision = m.revision; granted = m.granted; bound = m.bound; completed = m.completed; asked = Some r; idle = m.idle; stopped = m.stopped; transit = m.transit }
 
 abbrev pub with_idle : Member → ℕ → Member
-with_idle m r = record { joined = m.joined; publication = m.publication; revision = m.revision; granted = m.granted; bound = m.bound; completed = m.completed; asked = m.asked; idle = At r; stopped = m.stopped; transit = m.transit }
+with_idle m r = record { joined = m.joined; publication = m.publication; revision = m.revision; granted = m.granted; bound = m.bound; completed = m.completed; asked = m.asked; idle = Some r; stopped = m.stopped; transit = m.transit }
 
 abbrev pub with_stopped : Member → Member
 with_stopped m = record { joined = m.joined; publication = m.publication; revision = m.revision; granted = m.granted; bound = m.bound; completed = m.completed; asked = m.asked; idle = m.idle; stopped = true; transit = m.transit }

@@ -1,20 +1,13 @@
 -- One step of a session, in the paper's order.
 -- Assumes nothing.
-use Rattle.std.specs.Prelude.{ℕ, zero, suc, Bool, true, false, List, [], ◌∷◌, ◌++◌, ltb, leb, eqb, get_or, length}
+use Rattle.std.specs.Prelude.{ℕ, zero, suc, Bool, true, false, List, [], ◌∷◌, ◌++◌, ltb, leb, eqb, get_or, length, Option, Some, None}
 use Rattle.basis.specs.Choice.{pick, not, both, either}
 use Rattle.tags.specs.declared.Tag.{Tag}
 use Rattle.tags.specs.declared.Tag.TheVariants.{Never, Finite, Forever}
 use Rattle.tags.specs.Tags.{tag_le, tag_before, same_tag, delayed}
 use Rattle.plans.specs.Nets.{Net, Route, no_route, downstream}
 use Rattle.transit.specs.Tags.{insert, after, full}
-use Rattle.states.specs.declared.Next.{Next}
-use Rattle.states.specs.declared.Next.TheVariants.{Quiet, Event}
 use Rattle.states.specs.declared.Publication.{Publication}
-use Rattle.states.specs.declared.Publication.TheVariants.{Unpublished, Published}
-use Rattle.states.specs.declared.Mark.{Mark}
-use Rattle.states.specs.declared.Mark.TheVariants.{Unset}
-use Rattle.states.specs.declared.Limit.{Limit}
-use Rattle.states.specs.declared.Limit.TheVariants.{Absent, Upto}
 use Rattle.states.specs.declared.Request.{Request}
 use Rattle.states.specs.declared.Request.TheVariants.{Hello, Publish, Complete, Payload, ConfirmIdle, Stop, Abort}
 use Rattle.states.specs.declared.Delivery.{Delivery}
@@ -106,35 +99,35 @@ finite Never = false
 finite (Finite o m) = true
 finite Forever = false
 
-abbrev pub same_next : Next → Next → Bool
-same_next Quiet Quiet = true
-same_next Quiet (Event y) = false
-same_next (Event x) Quiet = false
-same_next (Event x) (Event y) = same_tag x y
+abbrev pub same_next : Option Tag → Option Tag → Bool
+same_next None None = true
+same_next None (Some y) = false
+same_next (Some x) None = false
+same_next (Some x) (Some y) = same_tag x y
 
-abbrev pub is_event : Next → Bool
-is_event Quiet = false
-is_event (Event t) = true
+abbrev pub is_event : Option Tag → Bool
+is_event None = false
+is_event (Some t) = true
 
 -- a test of the event, if there is one
-abbrev pub of_event : (Tag → Bool) → Next → Bool
-of_event f Quiet = false
-of_event f (Event t) = f t
+abbrev pub of_event : (Tag → Bool) → Option Tag → Bool
+of_event f None = false
+of_event f (Some t) = f t
 
-abbrev pub older : Publication → ℕ → Bool
-older Unpublished r = false
-older (Published q e) r = ltb r q
+abbrev pub older : Option Publication → ℕ → Bool
+older None r = false
+older (Some p) r = ltb r p.revision
 
-abbrev pub otherwise : Publication → ℕ → Next → Bool
-otherwise Unpublished r e = false
-otherwise (Published q d) r e = both (eqb q r) (not (same_next d e))
+abbrev pub otherwise : Option Publication → ℕ → Option Tag → Bool
+otherwise None r e = false
+otherwise (Some p) r e = both (eqb p.revision r) (not (same_next p.next e))
 
-abbrev pub same_publication : Publication → ℕ → Next → Bool
-same_publication Unpublished r e = false
-same_publication (Published q d) r e = both (eqb q r) (same_next d e)
+abbrev pub same_publication : Option Publication → ℕ → Option Tag → Bool
+same_publication None r e = false
+same_publication (Some p) r e = both (eqb p.revision r) (same_next p.next e)
 
 -- Publish, 24: event not finite; revision older; same revision, other event; event not after completed; event while idle.
-unfoldable pub bad_publication : Member → ℕ → Next → Bool
+unfoldable pub bad_publication : Member → ℕ → Option Tag → Bool
 bad_publication m r e = any (
     of_event (λ t. not (finite t)) e
     ∷ older m.publication r
@@ -142,23 +135,23 @@ bad_publication m r e = any (
     ∷ of_event (λ t. tag_le t (or_never m.completed)) e
     ∷ both (is_event e) (is_set m.idle) ∷ [])
 
-abbrev pub is_absent : Limit → Bool
-is_absent Absent = true
-is_absent (Upto t) = false
+abbrev pub is_absent : Option Tag → Bool
+is_absent None = true
+is_absent (Some t) = false
 
 -- Complete, 25: not finite, nothing granted, above granted, below completed.
 unfoldable pub bad_completion : Member → Tag → Bool
 bad_completion m t = any (not (finite t) ∷ is_absent m.granted ∷ tag_before (or_never m.granted) t ∷ tag_before t (or_never m.completed) ∷ [])
 
 -- completed (or ZERO)
-abbrev pub or_zero : Limit → Tag
-or_zero Absent = Finite 0 0
-or_zero (Upto t) = t
+abbrev pub or_zero : Option Tag → Tag
+or_zero None = Finite 0 0
+or_zero (Some t) = t
 
 -- a test of the tag, if there is one
-abbrev pub of_limit : (Tag → Bool) → Limit → Bool
-of_limit f Absent = false
-of_limit f (Upto t) = f t
+abbrev pub of_limit : (Tag → Bool) → Option Tag → Bool
+of_limit f None = false
+of_limit f (Some t) = f t
 
 abbrev pub on_instant : Tag → Bool
 on_instant Never = false
@@ -194,9 +187,9 @@ payload_refusal p s i k t =
     (when (full (p.capacity (route_at p k).target) t (view s (route_at p k).target).transit) 30))))
 
 -- 31: publication isn't this revision with no event
-abbrev pub confirms : Publication → ℕ → Bool
-confirms Unpublished r = false
-confirms (Published q e) r = both (eqb q r) (not (is_event e))
+abbrev pub confirms : Option Publication → ℕ → Bool
+confirms None r = false
+confirms (Some p) r = both (eqb p.revision r) (not (is_event p.next))
 
 unfoldable pub kind_refusal : Net → Session → ℕ → Request → ℕ
 kind_refusal p s i (Hello d) = when (not (eqb d s.identity)) 22
@@ -234,8 +227,8 @@ refusal_of p s i q =
 
 -- ---- what each kind does
 -- A changed publication clears the idle request.
-unfoldable pub publishing : Member → ℕ → Next → Member
-publishing m r e = with_publication m (Published r e) (pick (same_publication m.publication r e) m.asked Unset)
+unfoldable pub publishing : Member → ℕ → Option Tag → Member
+publishing m r e = with_publication m (Some (record { revision = r; next = e })) (pick (same_publication m.publication r e) m.asked None)
 
 unfoldable pub effect : Net → Session → ℕ → Request → Out
 effect p s i (Hello d) = tell (start s) i (with_joined (view s i)) []
@@ -278,10 +271,9 @@ abbrev pub is_empty : List Tag → Bool
 is_empty [] = true
 is_empty (t ∷ ts) = false
 
-abbrev pub confirmed : Publication → Mark → Bool
-confirmed Unpublished q = false
-confirmed (Published r Quiet) q = mark_is q r
-confirmed (Published r (Event t)) q = false
+abbrev pub confirmed : Option Publication → Option ℕ → Bool
+confirmed None q = false
+confirmed (Some p) q = both (not (is_event p.next)) (mark_is q p.revision)
 
 unfoldable pub at_rest : Member → Bool
 at_rest m = both (confirmed m.publication m.asked) (is_empty m.transit)

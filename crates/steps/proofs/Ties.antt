@@ -4,19 +4,23 @@ use Prim.Native.Nat.{ℕ, zero, suc, ◌*◌, ◌<◌, ◌≤◌}
 use native.Mathlib.Omega.{arith}
 use mathlib.Core.Path.{◌≡◌, refl, sym, ap, ap₂, subst, ◌∙◌}
 use mathlib.Core.Bool.{Bool, true, false}
+use Rattle.std.proofs.Common.{Option, None, Some}
 use mathlib.Core.List.{List, [], ◌∷◌, ◌++◌, append-nil}
 use lib.Dec.{ltb, eqb}
 use lib.ListN.{length, get_or, drop}
-use Rattle.basis.specs.Choice.{pick, both}
+use Rattle.basis.specs.Choice.{pick}
 use Rattle.basis.specs.Parts.{replaced}
 use Rattle.basis.proofs.Parts.{replaced-none}
 use Rattle.tags.specs.Tags.{top}
+use Rattle.states.specs.declared.Cause.{Cause}
 use Rattle.states.specs.declared.MemberState.{MemberState}
 use Rattle.states.specs.declared.State.{State}
 use Rattle.states.specs.declared.Request.{Request}
 use Rattle.states.specs.declared.Request.TheVariants.{Hello, Publish, Complete, Payload, ConfirmIdle, Stop, Abort}
 use Rattle.states.specs.declared.Delivery.{Delivery}
 use Rattle.states.specs.declared.Delivery.TheVariants.{Started, Failed}
+use Rattle.states.specs.Causes.{cause_no}
+use Rattle.states.specs.Records.{joined_at}
 use Rattle.states.specs.Sessions.{Session, view, with_cause}
 use Rattle.states.specs.Formed.{FitsRequest, Sound}
 use Rattle.states.specs.Sessions.{Member}
@@ -37,12 +41,12 @@ use Rattle.members.proofs.Formed.{formed-sound, formed-state, formed-slab, sound
 use Rattle.members.proofs.Rules.{Earliests, Completeds, earliests-low, completeds-low}
 use Rattle.members.proofs.Sessions.{sound-earliests, sound-completeds}
 use Rattle.members.proofs.Typed.{Typed}
-use Rattle.kinds.specs.declared.First.{First}
-use Rattle.kinds.specs.declared.First.TheVariants.{Nothing, Sends}
 use Rattle.kinds.specs.Effects.{firstly}
 use Rattle.kinds.proofs.Effects.{abort-never}
+use Rattle.kinds.proofs.Tests.{numbered}
+use Rattle.states.proofs.Every.{every-same}
 use Rattle.passes.specs.declared.Progress.{Progress}
-use Rattle.passes.specs.Pages.{Page, on, joined_at, start_at, fail_at, posting, follow_in, earliests_in, completeds_in, Ready}
+use Rattle.passes.specs.Pages.{Page, on, start_at, fail_at, posting, follow_in, earliests_in, completeds_in, Ready}
 use Rattle.passes.specs.Ties.{Shows, all_words}
 use Rattle.passes.proofs.Ties.{record_shown, posting-shows, all-shows, follow-shows}
 use Rattle.steps.specs.Steps.{Runs, Stands, Leaves, unsent, welcome_in, ended_state, failed_in, opened_by, after_in, code_said, over_in, aborted_state}
@@ -58,21 +62,20 @@ unsent-shows y s ws e = record { state = e; count = refl; words = none-sent ws }
 one-shows : (y : Session) (s : State) (ws : List ℕ) (d : Delivery) → s ≡ state_of y → Shows (record { session = y; sent = d ∷ [] }) (posting (unsent s ws) d) ws
 one-shows y s ws d e = posting-shows (record { session = y; sent = [] }) (unsent s ws) ws d (unsent-shows y s ws e)
 
-first-shows : (y : Session) (f : First) (s : State) (ws : List ℕ) → s ≡ state_of y → Shows (record { session = y; sent = firstly f }) (opened_by f s ws) ws
-first-shows y Nothing s ws e = unsent-shows y s ws e
-first-shows y (Sends d) s ws e = one-shows y s ws d e
+first-shows : (y : Session) (f : Option Delivery) (s : State) (ws : List ℕ) → s ≡ state_of y → Shows (record { session = y; sent = firstly f }) (opened_by f s ws) ws
+first-shows y None s ws e = unsent-shows y s ws e
+first-shows y (Some d) s ws e = one-shows y s ws d e
 
-pub opened-state : (f : First) (s : State) (ws : List ℕ) (g : Page) → g ≡ opened_by f s ws → g.progress.state ≡ s
-opened-state Nothing s ws g e = ap (λ (z : Page). z.progress.state) e
-opened-state (Sends d) s ws g e = ap (λ (z : Page). z.progress.state) e
+pub opened-state : (f : Option Delivery) (s : State) (ws : List ℕ) (g : Page) → g ≡ opened_by f s ws → g.progress.state ≡ s
+opened-state None s ws g e = ap (λ (z : Page). z.progress.state) e
+opened-state (Some d) s ws g e = ap (λ (z : Page). z.progress.state) e
 
-pub opened-few : (f : First) (s : State) (ws : List ℕ) (g : Page) → g ≡ opened_by f s ws → g.progress.sent ≤ 1
-opened-few Nothing s ws g e = omega (arith, ap (λ (z : Page). z.progress.sent) e)
-opened-few (Sends d) s ws g e = omega (arith, ap (λ (z : Page). z.progress.sent) e)
+pub opened-few : (f : Option Delivery) (s : State) (ws : List ℕ) (g : Page) → g ≡ opened_by f s ws → g.progress.sent ≤ 1
+opened-few None s ws g e = omega (arith, ap (λ (z : Page). z.progress.sent) e)
+opened-few (Some d) s ws g e = omega (arith, ap (λ (z : Page). z.progress.sent) e)
 
 -- ---- Failed to all
 all-failed : (y : Session) (s : State) (ws : List ℕ) (cause code n : ℕ) → s ≡ state_of y → Shows (record { session = y; sent = to_all (λ k. Failed k cause code) n }) (over_all (fail_at cause code) n (unsent s ws)) ws
-unfolding fail_at
 all-failed y s ws cause code n e =
     all-shows (fail_at cause code) (λ k. Failed k cause code) (λ g k. refl) (record { session = y; sent = [] }) (unsent s ws) ws n (unsent-shows y s ws e)
 
@@ -93,17 +96,12 @@ unfolding slab_of
 cause-slab x cause code w = refl
 
 -- ---- Started to all
-every-alike : (f h : ℕ → Bool) (n : ℕ) → ((k : ℕ) → k < n → f k ≡ h k) → every f n ≡ every h n
-unfolding every
-every-alike f h zero e = refl
-every-alike f h (suc n) e = ap₂ both (every-alike f h n (λ k l. e k (omega arith))) (e n (omega arith))
-
 welcome-shows : (b : List ℕ) (o : Out) (g : Page) (old : List ℕ) → length o.session.members ≡ members b → Shows o g old → Shows (welcome (net_in b) o) (welcome_in (members b) g) old
-unfolding welcome welcome_in joined_at start_at
+unfolding welcome welcome_in joined_at
 welcome-shows b o g old e h = rw (net_count b, all) (go (every (λ k. (view o.session k).joined) (members b)))
   where
     all : every (joined_at g.progress.state) (members b) ≡ every (λ k. (view o.session k).joined) (members b)
-    all = every-alike (joined_at g.progress.state) (λ k. (view o.session k).joined) (members b) (λ k l. ap (λ (r : MemberState). r.joined) (record_shown o g old k (omega arith) h))
+    all = every-same (joined_at g.progress.state) (λ k. (view o.session k).joined) (members b) (λ k l. ap (λ (r : MemberState). r.joined) (record_shown o g old k (omega arith) h))
 
     go : (c : Bool) → Shows (record { session = o.session; sent = o.sent ++ pick c (to_all Started (members b)) [] }) (pick c (over_all start_at (members b) g) g) old
     go true = all-shows start_at Started (λ g k. refl) o g old (members b) h
@@ -199,7 +197,7 @@ module _ (b : List ℕ) (runs : Runs b) where
       effect-ready t v e f =
           subst (λ (y : State). Ready y v (members b)) (sym e) (subst (λ (z : List ℕ). Ready (state_of (effect (net_in b) (session_of s w) i q).session) z (members b)) (sym f) (ready_of (effect (net_in b) (session_of s w) i q).session effect-is-sound w stands.fits))
 
-      pub accept-leaves : (f : First) (t : State) (v old words : List ℕ) (g : Page) (r : Progress) → (effect (net_in b) (session_of s w) i q).sent ≡ firstly f
+      pub accept-leaves : (f : Option Delivery) (t : State) (v old words : List ℕ) (g : Page) (r : Progress) → (effect (net_in b) (session_of s w) i q).sent ≡ firstly f
           → t ≡ state_of (effect (net_in b) (session_of s w) i q).session → v ≡ slab_of (effect (net_in b) (session_of s w) i q).session w → g ≡ opened_by f t old → on r words ≡ after_in b v g i q
           → Leaves (accepted (net_in b) (session_of s w) i q) r v words w old
       accept-leaves f t v old words g r sent e u opened after =
@@ -211,11 +209,11 @@ module _ (b : List ℕ) (runs : Runs b) where
           }
 
     -- a refusal
-    pub fail-leaves : (i : ℕ) (q : Request) (refusal n cause code : ℕ) (old words : List ℕ) (r : Progress) → cause ≡ refusal → (cause ≡ 0 → ⊥) → code ≡ code_of q → n ≡ members b → on r words ≡ failed_in s old cause code n
+    pub fail-leaves : (i : ℕ) (q : Request) (refusal n : ℕ) (cause : Cause) (code : ℕ) (old words : List ℕ) (r : Progress) → cause_no cause ≡ refusal → code ≡ code_of q → n ≡ members b → on r words ≡ failed_in s old (cause_no cause) code n
         → Leaves (answered (net_in b) (session_of s w) i q refusal) r w words w old
     unfolding answered failed_in
-    fail-leaves i q zero n cause code old words r c l d m e = absurd (l c)
-    fail-leaves i q (suc k) n cause code old words r c l d m e =
+    fail-leaves i q zero n cause code old words r c d m e = let l : 0 < cause_no cause = numbered cause in absurd (omega arith)
+    fail-leaves i q (suc k) n cause code old words r c d m e =
         let x = session_of s w in
         record {
           shows = subst (λ (z : Page). Shows (record { session = with_cause x (suc k) (code_of q); sent = to_all (λ j. Failed j (suc k) (code_of q)) (net_in b).count }) z old)

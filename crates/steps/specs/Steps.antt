@@ -1,11 +1,13 @@
 -- What a step is handed, what it leaves, and each part of it on the state and the words that the code holds.
 -- Assumes nothing.
-use Rattle.std.specs.Prelude.{ℕ, ◌*◌, ◌≤◌, ◌≡◌, Bool, true, false, List, ltb, eqb, length}
+use Rattle.std.specs.Prelude.{ℕ, ◌*◌, ◌≤◌, ◌≡◌, Bool, true, false, Option, None, Some, List, ltb, eqb, length}
 use Rattle.basis.specs.Choice.{pick}
 use Rattle.states.specs.declared.State.{State}
 use Rattle.states.specs.declared.Request.{Request}
 use Rattle.states.specs.declared.Request.TheVariants.{Hello, Publish, Complete, Payload, ConfirmIdle, Stop, Abort}
+use Rattle.states.specs.declared.Delivery.{Delivery}
 use Rattle.states.specs.declared.Delivery.TheVariants.{Failed}
+use Rattle.states.specs.Records.{joined_at}
 use Rattle.states.specs.Steps.{Out, every}
 use Rattle.rows.specs.Rows.{Laid, members}
 use Rattle.rows.specs.Nets.{Ordered, net_in}
@@ -13,10 +15,8 @@ use Rattle.rows.specs.Loops.{over_all}
 use Rattle.members.specs.Codes.{slab_of}
 use Rattle.members.specs.Formed.{formed}
 use Rattle.members.specs.Rules.{Mild}
-use Rattle.kinds.specs.declared.First.{First}
-use Rattle.kinds.specs.declared.First.TheVariants.{Nothing, Sends}
 use Rattle.passes.specs.declared.Progress.{Progress}
-use Rattle.passes.specs.Pages.{Page, on, joined_at, posting, start_at, fail_at, follow_in}
+use Rattle.passes.specs.Pages.{Page, on, posting, start_at, fail_at, follow_in}
 use Rattle.passes.specs.Ties.{Shows}
 
 -- ---- what a step is handed
@@ -52,9 +52,9 @@ unfoldable pub failed_in : State → List ℕ → ℕ → ℕ → ℕ → Page
 failed_in s ws cause code n = over_all (fail_at cause code) n (unsent (ended_state s cause code) ws)
 
 -- what an accepted request sends first
-abbrev pub opened_by : First → State → List ℕ → Page
-opened_by Nothing s ws = unsent s ws
-opened_by (Sends d) s ws = posting (unsent s ws) d
+abbrev pub opened_by : Option Delivery → State → List ℕ → Page
+opened_by None s ws = unsent s ws
+opened_by (Some d) s ws = posting (unsent s ws) d
 
 abbrev pub is_hello : Request → Bool
 is_hello (Hello d) = true

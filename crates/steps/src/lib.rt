@@ -3,6 +3,7 @@
 
 ghost use Rattle.std.specs.Prelude.{◌≡◌, ◌+◌, ◌*◌, ◌<◌, ◌≤◌, length};
 ghost use Rattle.states.specs.Formed.{FitsRequest};
+ghost use Rattle.states.specs.Causes.{cause_no};
 ghost use Rattle.states.specs.Steps.{code_of, refusal_of, accepted, answered, step as step_of, abandon as abandonOf};
 ghost use Rattle.rows.specs.Rows.{Laid, members};
 ghost use Rattle.rows.specs.Nets.{net_in};
@@ -11,20 +12,15 @@ ghost use Rattle.kinds.specs.Effects.{Routed, firstly, sent_first};
 ghost use Rattle.passes.specs.Pages.{on, Ready};
 ghost use Rattle.steps.specs.Steps.{Runs, Stands, Leaves, unsent, welcome_in, ended_state, failed_in, opened_by, is_hello, after_in, code_said, over_in, aborted_state};
 
-use kinds::First;
 use passes::Progress;
-use states::{Delivery, Request, State};
-
-// The cause of an abort.
-pub const ABORTED: u64 = 20;
+use states::{Cause, Delivery, Request, State};
 
 // Started to all n members, if all have joined.
 fn welcome(p: Progress, out: &mut [u64], n: usize) -> Progress
     requires { (n ≤ 32) × (7 * (p.sent + n) ≤ length out.old) }
     ensures { on result out.new ≡ welcome_in n (on p out.old) }
 {
-    let state = p.state;
-    if passes::all_joined(state, n) {
+    if states::all_joined(&p.state, n) {
         return passes::start_all(p, out, n);
     }
     p
@@ -34,31 +30,30 @@ fn welcome(p: Progress, out: &mut [u64], n: usize) -> Progress
 fn end(s: State, cause: u64, code: u64) -> State
     ensures { result ≡ ended_state s cause code }
 {
-    let mut t = s;
-    t.cause = cause;
-    t.code = code;
-    t
+    State { cause, code, ..s }
 }
 
 // A refusal that ends the session: Failed to all n members.
-fn fail(s: State, out: &mut [u64], cause: u64, code: u64, n: usize) -> Progress
+fn fail(s: State, out: &mut [u64], c: Cause, code: u64, n: usize) -> Progress
     requires { (n ≤ 32) × (7 * n ≤ length out.old) }
-    ensures { on result out.new ≡ failed_in s out.old cause code n }
+    ensures { on result out.new ≡ failed_in s out.old (cause_no c) code n }
 {
-    let t = end(s, cause, code);
-    let p = Progress { state: t, sent: 0 };
-    passes::fail_all(p, out, cause, code, n)
+    let p = Progress {
+        state: end(s, c.number(), code),
+        sent: 0,
+    };
+    passes::fail_all(p, out, c.number(), code, n)
 }
 
 // What an accepted request sends first.
-fn first(s: State, out: &mut [u64], f: First) -> Progress
+fn first(s: State, out: &mut [u64], f: Option<Delivery>) -> Progress
     requires { 7 ≤ length out.old }
     ensures { on result out.new ≡ opened_by f s out.old }
 {
     let p = Progress { state: s, sent: 0 };
     match f {
-        First::Nothing => p,
-        First::Sends(d) => passes::post(p, out, d),
+        Some(d) => passes::post(p, out, d),
+        None => p,
     }
 }
 
@@ -66,15 +61,7 @@ fn first(s: State, out: &mut [u64], f: First) -> Progress
 fn is_hello(q: Request) -> bool
     ensures { result ≡ is_hello q }
 {
-    match q {
-        Request::Hello(_) => true,
-        Request::Publish(_, _) => false,
-        Request::Complete(_) => false,
-        Request::Payload(_, _, _) => false,
-        Request::ConfirmIdle(_) => false,
-        Request::Stop => false,
-        Request::Abort(_) => false,
-    }
+    matches!(q, Request::Hello(_))
 }
 
 // What follows a request of member i: Started, or grants, Idle and bounds.
@@ -111,13 +98,8 @@ fn code(q: Request) -> u64
     ensures { result ≡ code_of q }
 {
     match q {
-        Request::Hello(_) => 0,
-        Request::Publish(_, _) => 0,
-        Request::Complete(_) => 0,
-        Request::Payload(_, _, _) => 0,
-        Request::ConfirmIdle(_) => 0,
-        Request::Stop => 0,
         Request::Abort(c) => c,
+        _ => 0,
     }
 }
 
@@ -133,21 +115,21 @@ fn answer(
     requires { Runs plan.now × Stands plan.now s slab.old × FitsRequest q × (7 * (1 + members plan.now + members plan.now) ≤ length out.old) }
     ensures { Leaves (answered (net_in plan.now) (session_of s slab.old) member q (refusal_of (net_in plan.now) (session_of s slab.old) member q)) result slab.new out.new slab.old out.old }
 {
-    let refusal = kinds::refusal(plan, s, slab, member, q);
-    if refusal == 0 {
-        return accept(plan, s, slab, out, member as usize, q);
+    match kinds::refusal(plan, s, slab, member, q) {
+        Ok(()) => accept(plan, s, slab, out, member as usize, q),
+        Err(c) => fail(s, out, c, code(q), rows::members(plan)),
     }
-    fail(s, out, refusal, code(q), rows::members(plan))
 }
 
 // The code that Failed gives of an ended session.
 fn code_said(s: State) -> u64
     ensures { result ≡ code_said s }
 {
-    if s.cause == ABORTED {
-        return s.code;
+    if s.cause == Cause::Aborted.number() {
+        s.code
+    } else {
+        0
     }
-    0
 }
 
 // A request in an ended session: one Failed to the member word given.
@@ -184,7 +166,7 @@ fn aborted(s: State, code: u64) -> State
     if s.cause > 0 {
         return s;
     }
-    end(s, ABORTED, code)
+    end(s, Cause::Aborted.number(), code)
 }
 
 // The owner's abort: Failed to all members.

@@ -14,7 +14,7 @@ use borrow.Author.Tests.{ltb-true, ltb-false, leb-true, leb-false, eqb-false, lt
 use Rattle.tags.specs.declared.Tag.{Tag}
 use Rattle.tags.specs.declared.Tag.TheVariants.{Never, Finite, Forever}
 use Rattle.tags.specs.Tags.{top, lex_le, tag_le, tag_before, delayed, pred_of, less_of, told_by, words_of}
-use Rattle.tags.specs.declared.Told.TheVariants.{Is as Told-as-Is}
+use Rattle.std.specs.Prelude.{Some}
 use Rattle.tags.specs.contracts.Tag.{the_type}
 use Rattle.tags.proofs.Order.{clash, Lex, lex, lex-of}
 
@@ -148,7 +148,7 @@ adjoint Forever (Finite p n) d sm = sym (beyond-by p n d (eqb d 0) (leb d p) ref
 adjoint Forever Forever d sm = refl
 
 -- ---- A tag's words say that tag.
-pub told-words : (x : Tag) → told_by (words_of x).class (words_of x).offset (words_of x).microstep ≡ Told-as-Is x
+pub told-words : (x : Tag) → told_by (words_of x).class (words_of x).offset (words_of x).microstep ≡ Some x
 told-words Never = refl
 told-words (Finite o m) = refl
 told-words Forever = refl

@@ -1,14 +1,10 @@
 -- Tags: what each function of a tag answers, by cases.
 -- Assumes nothing.
-use Rattle.std.specs.Prelude.{ℕ, ◌+◌, ◌-◌, Bool, true, false, ltb, leb, eqb}
+use Rattle.std.specs.Prelude.{ℕ, ◌+◌, ◌-◌, Bool, true, false, ltb, leb, eqb, Option, Some, None}
 use Rattle.basis.specs.Choice.{pick, not, both}
 use Rattle.tags.specs.declared.Tag.{Tag}
 use Rattle.tags.specs.declared.Tag.TheVariants.{Never, Finite, Forever}
-use Rattle.tags.specs.declared.Delayed.{Delayed}
-use Rattle.tags.specs.declared.Delayed.TheVariants.{To, TooFar}
 use Rattle.tags.specs.declared.Words.{Words}
-use Rattle.tags.specs.declared.Told.{Told}
-use Rattle.tags.specs.declared.Told.TheVariants.{Is, Unknown}
 
 -- M is the largest microstep, 2^64-1.
 abbrev pub top : ℕ
@@ -46,11 +42,11 @@ delayed Never d = Never
 delayed (Finite o m) d = pick (eqb d 0) (Finite o m) (Finite (o + d) 0)
 delayed Forever d = Forever
 
--- the same where an offset is at most 2^64-1: a sum past it is one value, too far
-abbrev pub delay_of : Tag → ℕ → Delayed
-delay_of Never d = To Never
-delay_of (Finite o m) d = pick (eqb d 0) (To (Finite o m)) (pick (leb (o + d) top) (To (Finite (o + d) 0)) TooFar)
-delay_of Forever d = To Forever
+-- the same where an offset is at most 2^64-1: a sum past it is too far, and none
+abbrev pub delay_of : Tag → ℕ → Option Tag
+delay_of Never d = Some Never
+delay_of (Finite o m) d = pick (eqb d 0) (Some (Finite o m)) (pick (leb (o + d) top) (Some (Finite (o + d) 0)) None)
+delay_of Forever d = Some Forever
 
 -- Predecessor: (o,m) with m>0 gives (o,m-1); (o,0) with o>0 gives (o-1,M); ZERO gives NEVER; the ends stay.
 abbrev pub pred_of : Tag → Tag
@@ -71,9 +67,9 @@ words_of (Finite o m) = record { class = 1; offset = o; microstep = m }
 words_of Forever = record { class = 2; offset = 0; microstep = 0 }
 
 -- the tag that three words say; any other class, or words that are not 0 where they must be, say none
-abbrev pub told_by : ℕ → ℕ → ℕ → Told
+abbrev pub told_by : ℕ → ℕ → ℕ → Option Tag
 told_by c o m =
-    pick (eqb c 1) (Is (Finite o m))
+    pick (eqb c 1) (Some (Finite o m))
     (pick (eqb o 0)
     (pick (eqb m 0)
-    (pick (eqb c 0) (Is Never) (pick (eqb c 2) (Is Forever) Unknown)) Unknown) Unknown)
+    (pick (eqb c 0) (Some Never) (pick (eqb c 2) (Some Forever) None)) None) None)

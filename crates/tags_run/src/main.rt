@@ -1,82 +1,59 @@
 // Tags at work: the marked subtractions, delays, predecessors and the order, a line each.
 #![tactic(auto)]
 
-use std::io;
-use tags::{Delayed, Tag, Told};
+use std::{fmt, io};
+use tags::Tag;
 
 // M, the largest microstep.
-const TOP: u64 = 18446744073709551615;
+const TOP: u64 = u64::MAX;
 
-fn space(rt: &impl Print) -> io::Result<()> {
-    print!(rt; " ")
-}
+// A tag as its three words.
+#[derive(Drop)]
+struct Shown(Tag);
 
-fn end(rt: &impl Print) -> io::Result<()> {
-    print!(rt; "\n")
-}
-
-// The three words of a tag.
-fn show(rt: &impl Print, t: Tag) -> io::Result<()> {
-    let w = t.words();
-    print!(rt; "{}", w.class)?;
-    space(rt)?;
-    print!(rt; "{}", w.offset)?;
-    space(rt)?;
-    print!(rt; "{}", w.microstep)
+impl fmt::Display for Shown {
+    fn fmt<W: fmt::Write>(&self, f: &mut fmt::Formatter<W>) -> fmt::Result {
+        let w = self.0.words();
+        write!(f, "{} {} {}", w.class, w.offset, w.microstep)
+    }
 }
 
 fn less(rt: &impl Print, t: Tag, d: u64) -> io::Result<()> {
-    print!(rt; "less ")?;
-    show(rt, t)?;
-    print!(rt; " {d} = ")?;
-    show(rt, t.subtract(d))?;
-    end(rt)
+    println!(rt; "less {} {d} = {}", Shown(t), Shown(t.subtract(d)))
 }
 
 fn later(rt: &impl Print, t: Tag, d: u64) -> io::Result<()> {
-    print!(rt; "delayed ")?;
-    show(rt, t)?;
-    print!(rt; " {d} = ")?;
     match t.delay(d) {
-        Delayed::To(x) => show(rt, x)?,
-        Delayed::TooFar => print!(rt; "too far")?,
+        Some(x) => println!(rt; "delayed {} {d} = {}", Shown(t), Shown(x)),
+        None => println!(rt; "delayed {} {d} = too far", Shown(t)),
     }
-    end(rt)
 }
 
 fn previous(rt: &impl Print, t: Tag) -> io::Result<()> {
-    print!(rt; "predecessor ")?;
-    show(rt, t)?;
-    print!(rt; " = ")?;
-    show(rt, t.predecessor())?;
-    end(rt)
+    println!(rt; "predecessor {} = {}", Shown(t), Shown(t.predecessor()))
 }
 
 // Which of the two comes first, and whether they are the same.
 fn order(rt: &impl Print, a: Tag, b: Tag) -> io::Result<()> {
-    print!(rt; "least ")?;
-    show(rt, a.least(b))?;
-    print!(rt; " greatest ")?;
-    show(rt, a.greatest(b))?;
-    if a.before(b) {
+    print!(rt;
+        "least {} greatest {}",
+        Shown(a.least(b)),
+        Shown(a.greatest(b))
+    )?;
+    if a < b {
         print!(rt; " before")?;
     }
-    if a.equal(b) {
+    if a == b {
         print!(rt; " equal")?;
     }
-    end(rt)
+    println!(rt)
 }
 
 fn told(rt: &impl Print, class: u64, offset: u64, microstep: u64) -> io::Result<()> {
-    print!(rt; "words {class}")?;
     match Tag::told(class, offset, microstep) {
-        Told::Is(t) => {
-            print!(rt; " say ")?;
-            show(rt, t)?;
-        }
-        Told::Unknown => print!(rt; " say none")?,
+        Some(t) => println!(rt; "words {class} say {}", Shown(t)),
+        None => println!(rt; "words {class} say none"),
     }
-    end(rt)
 }
 
 fn main(rt: HostRuntime) -> io::Result<()> {

@@ -1,4 +1,5 @@
+pub mod Places
+pub mod Gathered
 pub mod Decimals
 pub mod Hex
 pub mod Splits
-pub mod Places

@@ -3,7 +3,7 @@
 use Rattle.std.specs.Prelude.{ℕ, suc, Bool, true, false, List, [], ◌∷◌, eqb, take, drop}
 
 -- the bytes from one place to before another
-unfoldable pub slice : ℕ → ℕ → List ℕ → List ℕ
+abbrev pub slice : ℕ → ℕ → List ℕ → List ℕ
 slice from to xs = drop from (take to xs)
 
 -- the place after a byte: its own where it is the one that is looked for, else one more than in the rest

@@ -1,11 +1,11 @@
 -- Bytes in lowercase hex: two digits a byte; "odd or bad hex" says none.
 -- Assumes nothing.
-use Rattle.std.specs.Prelude.{ℕ, ◌+◌, ◌-◌, ◌*◌, ◌/◌, ◌%◌, Bool, true, false, List, [], ◌∷◌, ltb, eqb, length}
+use Rattle.std.specs.Prelude.{ℕ, ◌+◌, ◌-◌, ◌*◌, ◌/◌, ◌%◌, Bool, false, List, [], ◌∷◌, Option, None, Some, ltb, eqb, length}
+use Rattle.std.specs.List.{list_all}
 use Rattle.basis.specs.Choice.{pick}
-use Rattle.text.specs.declared.words.Bytes.{Bytes}
 
 -- the value of a hex digit; 16 for any other byte
-unfoldable pub nibble_of : ℕ → ℕ
+abbrev pub nibble_of : ℕ → ℕ
 nibble_of b =
     pick (ltb b 48) 16
     (pick (ltb b 58) (b - 48)
@@ -13,12 +13,11 @@ nibble_of b =
     (pick (ltb b 103) (b - 87) 16)))
 
 -- every byte is a hex digit
-unfoldable pub all_hex : List ℕ → Bool
-all_hex [] = true
-all_hex (b ∷ bs) = pick (ltb (nibble_of b) 16) (all_hex bs) false
+abbrev pub all_hex : List ℕ → Bool
+all_hex bs = list_all (λ b. ltb (nibble_of b) 16) bs
 
 -- a word of hex: an even number of digits, and some
-unfoldable pub is_hex : List ℕ → Bool
+abbrev pub is_hex : List ℕ → Bool
 is_hex w = pick (eqb (length w) 0) false (pick (eqb (length w % 2) 0) (all_hex w) false)
 
 -- the bytes that pairs of digits say
@@ -27,9 +26,6 @@ bytes_in [] = []
 bytes_in (a ∷ []) = []
 bytes_in (a ∷ b ∷ bs) = (16 * (nibble_of a % 16) + nibble_of b % 16) ∷ bytes_in bs
 
--- what a word says, with room for so many bytes
-unfoldable pub bytes_of : List ℕ → ℕ → Bytes
-bytes_of w room =
-    pick (is_hex w)
-    (pick (ltb room (length w / 2)) (record { good = false; count = 0 }) (record { good = true; count = length w / 2 }))
-    (record { good = false; count = 0 })
+-- how many bytes a word says, with room for so many
+abbrev pub bytes_of : List ℕ → ℕ → Option ℕ
+bytes_of w room = pick (is_hex w) (pick (ltb room (length w / 2)) None (Some (length w / 2))) None

@@ -1,5 +1,6 @@
 // Standard input, or another reader, line by line, in a fixed amount of memory. A read that fails ends the input.
-ghost use Rattle.std.specs.Prelude.{◌≡◌, ◌+◌, ◌-◌, ◌<◌, ◌≤◌, length};
+ghost use Rattle.std.specs.Prelude.{◌≡◌, ◌-◌, ◌<◌, ◌≤◌, IfSome, false, length};
+ghost use Rattle.text.specs.Lines.{Fits};
 
 use crate::scan;
 use std::io::Read;
@@ -10,40 +11,22 @@ pub const LINE: usize = 65600;
 // The bytes of the buffer that lines are read in: room for a line and for what is read beyond it.
 pub const WINDOW: usize = 131200;
 
-const NEWLINE: u8 = 10;
-
-// What has been read and not yet handed out: the bytes from start to end of the buffer; and whether the input is over.
+// A reader's lines: what has been read and not yet handed out, the bytes from start to end of the buffer; and whether the input
+// is over.
 #[derive(Clone, Copy)]
-pub struct Window {
+pub struct Lines {
+    pub buf: [u8; WINDOW],
     pub start: usize,
     pub end: usize,
     pub over: bool,
 }
 
-// What there is: a line, one that is too long, or nothing more.
-#[derive(Clone, Copy)]
-pub enum Found {
-    Text,
+// What there is: a line, which stands from start to end of the buffer, without its newline; one that is too long; or nothing more.
+#[derive(Clone, Copy, Debug, PartialEq, Eq)]
+pub enum Line {
+    Text { start: usize, end: usize },
     TooLong,
     Nothing,
-}
-
-// What was found; a text stands from start to end of the buffer, without its newline; and the window after it.
-#[derive(Clone, Copy)]
-pub struct Line {
-    pub found: Found,
-    pub start: usize,
-    pub end: usize,
-    pub window: Window,
-}
-
-// A window in which the first newline, or the end where there is none, has been found.
-#[derive(Clone, Copy)]
-struct Seen {
-    start: usize,
-    end: usize,
-    over: bool,
-    newline: usize,
 }
 
 // Reads once; how many bytes came, 0 at the input's end and where the read fails.
@@ -53,183 +36,114 @@ fn read_some(input: &mut impl Read, part: &mut [u8]) -> usize
     input.read(part).unwrap_or(0)
 }
 
-// Moves the bytes from start to end to the front, and answers how many they are.
-fn move_front(buf: &mut [u8], start: usize, end: usize) -> usize
-    requires { (start ≤ end) × (end ≤ length buf.old) }
-    ensures { result ≡ end - start }
-{
-    let n = end - start;
-    let mut i: usize = 0;
-    while i < n {
-        buf[i] = buf[start + i];
-        i += 1;
-    }
-    n
-}
-
-// Reads once, after the bytes from start to end, which move to the front. Answers where what is unread ends.
-fn fill(input: &mut impl Read, buf: &mut [u8], start: usize, end: usize) -> usize
-    requires { (start ≤ end) × (end ≤ length buf.old) }
-    ensures { (end - start ≤ result) × (result ≤ length buf.new) }
-{
-    let kept = move_front(buf, start, end);
-    kept + read_some(input, &mut buf[kept..])
-}
-
-// Reads on until there is a newline, or more than a line may have, or the input is over.
-fn gather(input: &mut impl Read, buf: &mut [u8], first: usize, last: usize) -> Seen
-    requires { (first ≤ last) × (last ≤ length buf.old) × (65600 < length buf.old) }
-    ensures { (result.start ≤ result.newline) × (result.newline ≤ result.end) × (result.end ≤ length buf.new) }
-{
-    let mut start = first;
-    let mut end = last;
-    let mut newline = scan::find(buf, start, end, NEWLINE);
-    while newline == end && end - start <= LINE {
-        let seen = end - start;
-        let more = fill(input, buf, start, end);
-        if more == seen {
-            return Seen {
-                start: 0,
-                end: more,
-                over: true,
-                newline: more,
-            };
-        }
-        newline = scan::find(buf, seen, more, NEWLINE);
-        start = 0;
-        end = more;
-    }
-    Seen {
-        start,
-        end,
-        over: false,
-        newline,
-    }
-}
-
-// The first newline of what is there, read on where needed.
-fn look(input: &mut impl Read, buf: &mut [u8], start: usize, end: usize, over: bool) -> Seen
-    requires { (start ≤ end) × (end ≤ length buf.old) × (65600 < length buf.old) }
-    ensures { (result.start ≤ result.newline) × (result.newline ≤ result.end) × (result.end ≤ length buf.new) }
-{
-    if over {
-        let newline = scan::find(buf, start, end, NEWLINE);
-        return Seen {
-            start,
-            end,
-            over: true,
-            newline,
-        };
-    }
-    gather(input, buf, start, end)
-}
-
-// A window on input that is over.
-fn closed() -> Window {
-    Window {
-        start: 0,
-        end: 0,
-        over: true,
-    }
-}
-
-// Reads on past the next newline, and forgets what stands before it.
-fn skip(input: &mut impl Read, buf: &mut [u8]) -> Window {
-    let mut turns = u64::MAX;
-    while 0 < turns {
-        let end = read_some(input, buf);
-        if end == 0 {
-            return closed();
-        }
-        let newline = scan::find(buf, 0, end, NEWLINE);
-        if newline < end {
-            return Window {
-                start: newline + 1,
-                end,
-                over: false,
-            };
-        }
-        turns -= 1;
-    }
-    closed()
-}
-
 // The text from start to end, unless it is too long for a line.
-fn line_of(start: usize, end: usize, window: Window) -> Line
-    requires { start ≤ end }
-    ensures { (result.start ≤ result.end) × (result.end ≤ end) }
+fn line_of(start: usize, end: usize) -> Line
+    requires { (start ≤ end) × (end ≤ 131200) }
+    ensures { Fits result }
 {
     if LINE < end - start {
-        return Line {
-            found: Found::TooLong,
+        Line::TooLong
+    } else {
+        Line::Text { start, end }
+    }
+}
+
+impl Lines {
+    // Nothing has been read.
+    pub fn new() -> Lines
+        ensures start { result.start ≡ 0 }
+        ensures end { result.end ≡ 0 }
+        ensures over { result.over ≡ false }
+    {
+        Lines {
+            buf: [0; WINDOW],
             start: 0,
             end: 0,
-            window,
-        };
+            over: false,
+        }
     }
-    Line {
-        found: Found::Text,
-        start,
-        end,
-        window,
-    }
-}
 
-// What the input's last bytes are: a line without a newline, or nothing.
-fn last_line(start: usize, end: usize) -> Line
-    requires { start ≤ end }
-    ensures { (result.start ≤ result.end) × (result.end ≤ end) }
-{
-    let window = closed();
-    if start == end {
-        return Line {
-            found: Found::Nothing,
-            start: 0,
-            end: 0,
-            window,
-        };
+    // Reads once, after what is unread, which moves to the front. Where nothing comes, the input is over.
+    fn fill(&mut self, input: &mut impl Read)
+        requires { (self.old.start ≤ self.old.end) × (self.old.end ≤ 131200) }
+        ensures start { self.new.start ≡ 0 }
+        ensures end { self.new.end ≤ 131200 }
+        ensures kept { self.old.end - self.old.start ≤ self.new.end }
+        ensures more { self.new.over ≡ false → self.old.end - self.old.start < self.new.end }
+    {
+        let kept = self.end - self.start;
+        self.buf.copy_within(self.start..self.end, 0);
+        let came = read_some(input, &mut self.buf[kept..]);
+        self.start = 0;
+        self.end = kept + came;
+        self.over = came == 0;
     }
-    line_of(start, end, window)
-}
 
-// The line that a scan found.
-fn line_at(input: &mut impl Read, buf: &mut [u8], s: Seen) -> Line
-    requires { (s.start ≤ s.newline) × (s.newline ≤ s.end) × (s.end ≤ length buf.old) }
-    ensures { (result.start ≤ result.end) × (result.end ≤ length buf.new) }
-{
-    if s.newline < s.end {
-        let window = Window {
-            start: s.newline + 1,
-            end: s.end,
-            over: s.over,
-        };
-        return line_of(s.start, s.newline, window);
+    // Reads on until there is a newline, or more than a line may have, or the input is over. Where the newline stands.
+    fn gather(&mut self, input: &mut impl Read) -> Option<usize>
+        requires { (self.old.start ≤ self.old.end) × (self.old.end ≤ 131200) }
+        ensures unread { (self.new.start ≤ self.new.end) × (self.new.end ≤ 131200) }
+        ensures place { IfSome result (λ i. (self.new.start ≤ i) × (i < self.new.end)) }
+    {
+        let mut newline = scan::find(&self.buf, self.start, self.end, b'\n');
+        // a `while`: there are three ways to stop, and no count
+        while newline.is_none() && !self.over && self.end - self.start <= LINE {
+            let seen = self.end - self.start;
+            self.fill(input);
+            newline = scan::find(&self.buf, seen, self.end, b'\n');
+        }
+        newline
     }
-    if s.over {
-        return last_line(s.start, s.end);
-    }
-    let window = skip(input, buf);
-    Line {
-        found: Found::TooLong,
-        start: 0,
-        end: 0,
-        window,
-    }
-}
 
-fn least(a: usize, b: usize) -> usize
-    ensures { (result ≤ a) × (result ≤ b) }
-{
-    if a < b { a } else { b }
-}
+    // Forgets what is unread; the input is over.
+    fn close(&mut self) {
+        self.start = 0;
+        self.end = 0;
+        self.over = true;
+    }
 
-// The next line of standard input. A line may have LINE bytes; a longer one is too long, and read to its end. The last one may
-// lack its newline.
-pub fn next_line(input: &mut impl Read, buf: &mut [u8; WINDOW], w: Window) -> Line
-    ensures { (result.start ≤ result.end) × (result.end ≤ 131200) }
-{
-    let end = least(w.end, WINDOW);
-    let start = least(w.start, end);
-    let s = look(input, buf, start, end, w.over);
-    line_at(input, buf, s)
+    // Reads on past the next newline, and forgets what stands before it.
+    fn skip(&mut self, input: &mut impl Read) {
+        for _ in 0..u64::MAX {
+            let end = read_some(input, &mut self.buf);
+            if end == 0 {
+                break;
+            }
+            if let Some(newline) = scan::find(&self.buf, 0, end, b'\n') {
+                self.start = newline + 1;
+                self.end = end;
+                return;
+            }
+        }
+        self.close();
+    }
+
+    // The next line. A line may have LINE bytes; a longer one is too long, and read to its end. The last one may lack its newline.
+    pub fn next_line(&mut self, input: &mut impl Read) -> Line
+        ensures { Fits result }
+    {
+        self.end = self.end.min(WINDOW);
+        self.start = self.start.min(self.end);
+        let newline = self.gather(input);
+        let start = self.start;
+        let end = self.end;
+        match newline {
+            Some(newline) => {
+                self.start = newline + 1;
+                line_of(start, newline)
+            }
+            None if !self.over => {
+                self.skip(input);
+                Line::TooLong
+            }
+            None => {
+                self.close();
+                if start == end {
+                    Line::Nothing
+                } else {
+                    line_of(start, end)
+                }
+            }
+        }
+    }
 }

@@ -6,6 +6,6 @@ mod output;
 mod scan;
 mod words;
 
-pub use input::{Found, LINE, Line, WINDOW, Window, next_line};
-pub use output::{flush, put, put_decimal, put_hex, put_item};
-pub use words::{Bytes, Number, Numbers, read_bytes, read_number, read_numbers, word_end};
+pub use input::{LINE, Line, Lines, WINDOW};
+pub use output::Output;
+pub use words::{read_bytes, read_number, read_numbers, word_end};

@@ -1,82 +1,100 @@
-// Answers, gathered in a lent buffer that is written to standard output when it is full. Each function takes the place after
-// what is gathered, and answers the next such place, or the error of a write that failed, and of nothing else: then some bytes
-// of the buffer may be others, and it is as long as it was.
-ghost use Rattle.std.specs.Prelude.{◌≡◌, ◌≤◌, length};
+// Answers, gathered in a buffer that is written to standard output when it is full. An error is that of a write that failed, and of
+// nothing else.
+ghost use Rattle.std.specs.Prelude.{◌≡◌, ◌≤◌, ◌∷◌, ℕ, List, OnOk, [], decimal, take};
+ghost use Rattle.text.specs.Output.{and_byte, and_bytes, glyph_of, hex_of};
 
 use std::io;
+use std::marker::Model;
 
-// Writes what is gathered before `at`; nothing is gathered then.
-pub fn flush(rt: &impl Print, out: &[u8], at: usize) -> io::Result<usize> {
-    if at <= out.len() {
-        rt.write_all(&out[0..at])?;
-    }
-    Ok(0)
+// What is gathered: the first `held` bytes of the buffer. A contract sees these bytes.
+#[derive(Drop)]
+pub struct Output<const SIZE: usize> {
+    bytes: [u8; SIZE],
+    held: usize,
 }
 
-// One more byte.
-fn put_byte(rt: &impl Print, out: &mut [u8], at: usize, b: u8) -> io::Result<usize> {
-    let mut next = at;
-    if out.len() <= at {
-        next = flush(rt, out, at)?;
-    }
-    if next < out.len() {
-        out[next] = b;
-        next += 1;
-    }
-    Ok(next)
-}
+impl<const SIZE: usize> Model for Output<SIZE> {
+    ghost Value = { List ℕ };
 
-// A text.
-pub fn put(rt: &impl Print, out: &mut [u8], at: usize, text: &[u8]) -> io::Result<usize>
-    ensures { length out.new ≡ length out.old }
-{
-    let mut next = at;
-    let mut i: usize = 0;
-    while i < text.len() {
-        next = put_byte(rt, out, next, text[i])?;
-        i += 1;
-    }
-    Ok(next)
-}
+    ghost view = { λ o. take o.held o.bytes };
 
-// A number in decimal.
-pub fn put_decimal(rt: &impl Print, out: &mut [u8], at: usize, n: u64) -> io::Result<usize>
-    ensures { length out.new ≡ length out.old }
-{
-    let mut digits = itoa::Buffer::new();
-    put(rt, out, at, digits.format(n).as_bytes())
-}
-
-// A space and a number.
-pub fn put_item(rt: &impl Print, out: &mut [u8], at: usize, n: u64) -> io::Result<usize>
-    ensures { length out.new ≡ length out.old }
-{
-    let next = put(rt, out, at, b" ")?;
-    put_decimal(rt, out, next, n)
+    ghost invariant = { λ o. o.held ≤ SIZE };
 }
 
 // The glyph of a hex digit.
 fn glyph(d: u8) -> u8
     requires { d ≤ 15 }
+    ensures { result ≡ glyph_of d }
 {
-    if d < 10 { 48 + d } else { 87 + d }
+    if d < 10 { b'0' + d } else { b'a' + (d - 10) }
 }
 
-// The two hex digits of a byte.
-fn put_pair(rt: &impl Print, out: &mut [u8], at: usize, b: u8) -> io::Result<usize> {
-    let next = put_byte(rt, out, at, glyph(b / 16))?;
-    put_byte(rt, out, next, glyph(b % 16))
-}
-
-// Bytes in lowercase hex.
-pub fn put_hex(rt: &impl Print, out: &mut [u8], at: usize, bytes: &[u8]) -> io::Result<usize>
-    ensures { length out.new ≡ length out.old }
-{
-    let mut next = at;
-    let mut i: usize = 0;
-    while i < bytes.len() {
-        next = put_pair(rt, out, next, bytes[i])?;
-        i += 1;
+impl<const SIZE: usize> Output<SIZE> {
+    pub fn new() -> Output<SIZE>
+        ensures { result ≡ [] }
+    {
+        Output {
+            bytes: [0; SIZE],
+            held: 0,
+        }
     }
-    Ok(next)
+
+    // Writes what is gathered; nothing is gathered then.
+    pub fn flush(&mut self, rt: &impl Print) -> io::Result<()>
+        ensures { OnOk result (self.new ≡ []) }
+    {
+        rt.write_all(&self.bytes[..self.held])?;
+        self.held = 0;
+        Ok(())
+    }
+
+    // One more byte.
+    fn put_byte(&mut self, rt: &impl Print, b: u8) -> io::Result<()>
+        ensures { OnOk result (self.new ≡ and_byte SIZE self.old b) }
+    {
+        if SIZE <= self.held {
+            self.flush(rt)?;
+        }
+        if self.held < SIZE {
+            self.bytes[self.held] = b;
+            self.held += 1;
+        }
+        Ok(())
+    }
+
+    // A text.
+    pub fn put(&mut self, rt: &impl Print, text: &[u8]) -> io::Result<()>
+        ensures { OnOk result (self.new ≡ and_bytes SIZE self.old text.now) }
+    {
+        for b in text {
+            self.put_byte(rt, *b)?;
+        }
+        Ok(())
+    }
+
+    // A number in decimal.
+    pub fn put_decimal(&mut self, rt: &impl Print, n: u64) -> io::Result<()>
+        ensures { OnOk result (self.new ≡ and_bytes SIZE self.old (decimal n)) }
+    {
+        self.put(rt, itoa::Buffer::new().format(n).as_bytes())
+    }
+
+    // A space and a number.
+    pub fn put_item(&mut self, rt: &impl Print, n: u64) -> io::Result<()>
+        ensures { OnOk result (self.new ≡ and_bytes SIZE self.old (32 ∷ decimal n)) }
+    {
+        self.put_byte(rt, b' ')?;
+        self.put_decimal(rt, n)
+    }
+
+    // Bytes in lowercase hex.
+    pub fn put_hex(&mut self, rt: &impl Print, bytes: &[u8]) -> io::Result<()>
+        ensures { OnOk result (self.new ≡ and_bytes SIZE self.old (hex_of bytes.now)) }
+    {
+        for b in bytes {
+            self.put_byte(rt, glyph(b / 16))?;
+            self.put_byte(rt, glyph(b % 16))?;
+        }
+        Ok(())
+    }
 }

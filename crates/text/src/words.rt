@@ -1,53 +1,18 @@
 // The words of a line, separated by single spaces; decimal numbers below 2^64; bytes in lowercase hex.
-ghost use Rattle.std.specs.Prelude.{◌≡◌, ◌+◌, ◌*◌, ◌<◌, ◌≤◌, length, set};
+ghost use Rattle.std.specs.Prelude.{◌≡◌, ◌+◌, ◌*◌, ◌%◌, ◌<◌, ◌≤◌, IfSome, is_some, length, nat_lt, unwrap_or};
 ghost use Rattle.std.proofs.Math.Seq.{paste};
 ghost use Rattle.std.proofs.lemmas.List.Edits.{sets};
-ghost use Rattle.text.specs.Numbers.{said, unsaid, longer_of, read_from, number_of, leading, count_from};
+ghost use Rattle.text.specs.Numbers.{longer_of, read_from, number_of, leading, count_from};
 ghost use Rattle.text.specs.Hex.{nibble_of, all_hex, is_hex, bytes_in, bytes_of};
 ghost use Rattle.text.specs.Words.{word_end, words_after};
 
 use crate::scan;
 
-const SPACE: u8 = 32;
+const SPACE: u8 = b' ';
 
-// The bytes of the digits 0 and 9.
-const ZERO: u8 = 48;
+const ZERO: u8 = b'0';
 
-const NINE: u8 = 57;
-
-// The bytes of the digits a and f.
-const A: u8 = 97;
-
-const F: u8 = 102;
-
-// What a byte that is no hex digit counts as: one past the digits.
-const NO_DIGIT: u8 = 16;
-
-// The largest number, and the largest that can take one more digit.
-const LARGEST: u64 = 18446744073709551615;
-
-const LARGEST_TENTH: u64 = 1844674407370955161;
-
-// The number that a word says; if it says none, not good and 0.
-#[derive(Clone, Copy)]
-pub struct Number {
-    pub good: bool,
-    pub value: u64,
-}
-
-// How many bytes a word says; if it says none, or more than there is room for, not good and 0.
-#[derive(Clone, Copy)]
-pub struct Bytes {
-    pub good: bool,
-    pub count: usize,
-}
-
-// How many numbers the rest of a line says; if some word says none, not good and 0.
-#[derive(Clone, Copy)]
-pub struct Numbers {
-    pub good: bool,
-    pub count: usize,
-}
+const NINE: u8 = b'9';
 
 // Where the word that starts at `from` ends: at the next space, or at the line's end.
 pub fn word_end(line: &[u8], from: usize) -> usize
@@ -55,121 +20,68 @@ pub fn word_end(line: &[u8], from: usize) -> usize
     ensures value { result ≡ word_end line.now from }
     ensures lower_bound { (from ≤ result) × (result ≤ length line.now) }
 {
-    scan::find(line, from, line.len(), SPACE)
+    scan::find(line, from, line.len(), SPACE).unwrap_or(line.len())
 }
 
-fn wide(x: u8) -> u64
-    ensures { (result ≡ x) × (result < 256) }
-{
-    x as u64
-}
-
-fn said(value: u64) -> Number
-    ensures { result ≡ said value }
-{
-    Number { good: true, value }
-}
-
-fn unsaid() -> Number
-    ensures { result ≡ unsaid }
-{
-    Number {
-        good: false,
-        value: 0,
-    }
-}
-
-// The number v with the digit b after it.
-fn longer(v: u64, b: u8) -> Number
+// The number v with the digit b after it, if that is one below 2^64.
+fn longer(v: u64, b: u8) -> Option<u64>
     ensures { result ≡ longer_of v b }
 {
-    if b < ZERO {
-        return unsaid();
+    match b {
+        ZERO..=NINE => v.checked_mul(10)?.checked_add(u64::from(b - ZERO)),
+        _ => None,
     }
-    if NINE < b {
-        return unsaid();
-    }
-    let d = wide(b - ZERO);
-    if LARGEST_TENTH < v {
-        return unsaid();
-    }
-    if LARGEST - 10 * v < d {
-        return unsaid();
-    }
-    said(10 * v + d)
 }
 
 // The number that digits say, first digit first.
-fn digits(word: &[u8]) -> Number
+fn digits(word: &[u8]) -> Option<u64>
     ensures { result ≡ read_from word.now 0 }
 {
     let mut v: u64 = 0;
-    let mut i: usize = 0;
-    while i < word.len() {
-        let n = longer(v, word[i]);
-        if !n.good {
-            return unsaid();
-        }
-        v = n.value;
-        i += 1;
+    for b in word {
+        v = longer(v, *b)?;
     }
-    said(v)
+    Some(v)
 }
 
 // The number that a word says: one or more decimal digits, below 2^64.
-pub fn read_number(word: &[u8]) -> Number
+pub fn read_number(word: &[u8]) -> Option<u64>
     ensures { result ≡ number_of word.now }
 {
-    if word.len() == 0 {
-        return unsaid();
-    }
-    digits(word)
+    if word.is_empty() { None } else { digits(word) }
 }
 
-// The value of a hex digit; 16 for any other byte.
-fn nibble(b: u8) -> u8
-    ensures { (result ≡ nibble_of b) × (result ≤ 16) }
+// The value of a hex digit.
+fn nibble(b: u8) -> Option<u8>
+    ensures value { unwrap_or result 16 ≡ nibble_of b }
+    ensures digit { is_some result ≡ nat_lt (nibble_of b) 16 }
 {
-    if b < ZERO {
-        return NO_DIGIT;
+    match b {
+        ZERO..=NINE => Some(b - ZERO),
+        b'a'..=b'f' => Some(b - b'a' + 10),
+        _ => None,
     }
-    if b <= NINE {
-        return b - ZERO;
-    }
-    if b < A {
-        return NO_DIGIT;
-    }
-    if b <= F {
-        return b - A + 10;
-    }
-    NO_DIGIT
 }
 
 // Whether every byte is a hex digit.
 fn all_hex(word: &[u8]) -> bool
     ensures { result ≡ all_hex word.now }
 {
-    let mut i: usize = 0;
-    while i < word.len() {
-        if nibble(word[i]) == NO_DIGIT {
-            return false;
-        }
-        i += 1;
-    }
-    true
+    word.iter().all(|b| nibble(*b).is_some())
 }
 
 // Whether a word is hex: an even number of digits, and some.
 fn is_hex(word: &[u8]) -> bool
     ensures { result ≡ is_hex word.now }
 {
-    if word.len() == 0 {
-        return false;
-    }
-    if word.len() % 2 != 0 {
-        return false;
-    }
-    all_hex(word)
+    !word.is_empty() && word.len() % 2 == 0 && all_hex(word)
+}
+
+// The byte that two digits say.
+fn byte_of(high: u8, low: u8) -> u8
+    ensures { result ≡ 16 * (nibble_of high % 16) + nibble_of low % 16 }
+{
+    16 * nibble(high).unwrap_or(0) + nibble(low).unwrap_or(0)
 }
 
 // Puts the bytes that the first 2n digits say at the start of out.
@@ -177,71 +89,42 @@ fn unhex(word: &[u8], n: usize, out: &mut [u8])
     requires { (2 * n ≤ length word.now) × (n ≤ length out.old) }
     ensures { out.new ≡ paste out.old 0 (bytes_in word.now) n }
 {
-    let mut j: usize = 0;
-    while j < n {
-        let high = nibble(word[2 * j]) % 16;
-        let low = nibble(word[2 * j + 1]) % 16;
-        out[j] = 16 * high + low;
-        j += 1;
+    // by places: over `out.iter_mut().zip(word.chunks_exact(2))` the proof does not close, since the loop's invariant cannot name out
+    for j in 0..n {
+        out[j] = byte_of(word[2 * j], word[2 * j + 1]);
     }
 }
 
-// The bytes that a word of lowercase hex says, put at the start of out. If it is no hex, or there is no room, out stays.
-pub fn read_bytes(word: &[u8], out: &mut [u8]) -> Bytes
+// The bytes that a word of lowercase hex says, put at the start of out, and how many these are. If it is no hex, or there is no
+// room, none, and out stays.
+pub fn read_bytes(word: &[u8], out: &mut [u8]) -> Option<usize>
     ensures value { result ≡ bytes_of word.now (length out.old) }
-    ensures out_after { out.new ≡ paste out.old 0 (bytes_in word.now) result.count }
-    ensures count_in_bounds { result.count ≤ length out.new }
+    ensures out_after { out.new ≡ paste out.old 0 (bytes_in word.now) (unwrap_or result 0) }
+    ensures count_in_bounds { IfSome result (λ n. n ≤ length out.new) }
 {
-    if !is_hex(word) {
-        return Bytes {
-            good: false,
-            count: 0,
-        };
-    }
     let n = word.len() / 2;
-    if out.len() < n {
-        return Bytes {
-            good: false,
-            count: 0,
-        };
+    if !is_hex(word) || out.len() < n {
+        return None;
     }
     unhex(word, n, out);
-    Bytes {
-        good: true,
-        count: n,
-    }
-}
-
-// Stores a value at a place, where there is one.
-fn keep(out: &mut [u64], at: usize, value: u64)
-    ensures { out.new ≡ set out.old at value }
-{
-    if at < out.len() {
-        out[at] = value;
-    }
+    Some(n)
 }
 
 // The numbers that the words after `from`, a space or the line's end, say, up to the first word that says none: put into out,
 // as many as it takes. How many there are, if every word says one.
-pub fn read_numbers(line: &[u8], from: usize, out: &mut [u64]) -> Numbers
+pub fn read_numbers(line: &[u8], from: usize, out: &mut [u64]) -> Option<usize>
     ensures value { result ≡ count_from 0 (words_after line.now from) }
     ensures out_after { out.new ≡ sets out.old 0 (leading (words_after line.now from)) }
 {
-    let mut at = from;
     let mut count: usize = 0;
-    while at < line.len() {
-        let start = at + 1;
-        let end = word_end(line, start);
-        let n = read_number(&line[start..end]);
-        if !n.good {
-            return Numbers {
-                good: false,
-                count: 0,
-            };
+    if from < line.len() {
+        for word in line[from + 1..].split(|b| *b == SPACE) {
+            let n = read_number(word)?;
+            if count < out.len() {
+                out[count] = n;
+            }
+            count += 1;
         }
-        keep(out, count, n.value);
-        count += 1;
-        at = end;
     }
-    Numbers { good: true, count }
+    Some(count)
 }

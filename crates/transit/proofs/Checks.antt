@@ -1,15 +1,14 @@
 -- The steps of the checks of a stretch, and its first tag.
 -- Assumes nothing.
 use Prim.Native.Nat.{ℕ, suc, ◌+◌, ◌*◌, ◌<◌, ◌≤◌}
-use native.Mathlib.Numerals.{add-one}
 use native.Mathlib.Omega.{arith}
 use mathlib.Core.Path.{◌≡◌, refl, ap, ◌∙◌}
 use mathlib.Core.Bool.{Bool, true, false}
 use mathlib.Core.List.{List, [], ◌∷◌}
 use lib.Dec.{eqb}
-use lib.ListN.{length, get_or, drop, drop_of_length-le}
-use lib.Seq.{drop-cons}
-use borrow.Author.Tests.{eq-eqb, ne_eqb}
+use Rattle.std.specs.Prelude.{◌&&◌}
+use Rattle.std.specs.List.{list_all}
+use lib.ListN.{length, drop}
 use Rattle.basis.specs.Choice.{both}
 use Rattle.tags.specs.declared.Tag.{Tag}
 use Rattle.tags.specs.declared.Tag.TheVariants.{Never, Finite, Forever}
@@ -28,28 +27,15 @@ pub ascending-end : (last : Tag) (n i : ℕ) (ws : List ℕ) → n ≤ i → 2 *
 unfolding ascending
 ascending-end last n i ws h l = rw (no_slot n i ws h l)
 
--- ---- zeros: the word at j, and the end
-blank_step : (s : List ℕ) (j : ℕ) → j < length s → blank (drop j s) ≡ both (eqb (get_or s j 0) 0) (blank (drop (j + 1) s))
+-- ---- zeros
+pub both-and : (a b : Bool) → (a && b) ≡ both a b
+both-and true b = refl
+both-and false b = refl
+
+pub blank-all : (ws : List ℕ) → list_all (λ w. eqb w 0) ws ≡ blank ws
 unfolding blank
-blank_step s j l = rw (add-one j, drop-cons s j 0 l)
-
-both_false : (a : Bool) → both a false ≡ false
-both_false true = refl
-both_false false = refl
-
-pub both-all : (a : Bool) → both a true ≡ a
-both-all true = refl
-both-all false = refl
-
-pub soiled : (all : Bool) (s : List ℕ) (j : ℕ) → j < length s → (get_or s j 0 ≡ 0 → ⊥) → both all (blank (drop j s)) ≡ false
-soiled all s j l h = rw (blank_step s j l, ne_eqb (get_or s j 0) 0 h) (both_false all)
-
-pub still : (s : List ℕ) (j : ℕ) → j < length s → get_or s j 0 ≡ 0 → blank (drop j s) ≡ blank (drop (j + 1) s)
-still s j l h = rw (blank_step s j l, eq-eqb (get_or s j 0) 0 h)
-
-pub blank-end : (all : Bool) (s : List ℕ) (j : ℕ) → length s ≤ j → both all (blank (drop j s)) ≡ all
-unfolding blank
-blank-end all s j l = rw (drop_of_length-le s l) (both-all all)
+blank-all [] = refl
+blank-all (w ∷ ws) = both-and (eqb w 0) (list_all (λ v. eqb v 0) ws) ∙ ap (both (eqb w 0)) (blank-all ws)
 
 -- ---- the first tag
 pub first-none : (lo : Tag) (n : ℕ) (ws : List ℕ) (ts : List Tag) → Laid lo n ws ts → n ≡ 0 → Forever ≡ first_of ts

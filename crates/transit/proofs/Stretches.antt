@@ -1,14 +1,12 @@
 -- Stretches of the slab: one is lent and put back, every other one stays, and all are cleared at opening.
 -- Assumes nothing.
-use Prim.Native.Nat.{ℕ, zero, suc, ◌+◌, ◌*◌, ◌-◌, ◌<◌, ◌≤◌}
-use native.Mathlib.Nat.{le_of_suc-le-suc, not-suc-le-zero}
-use native.Mathlib.Numerals.{add-one}
+use Prim.Native.Nat.{ℕ, ◌+◌, ◌*◌, ◌-◌, ◌<◌, ◌≤◌}
 use native.Mathlib.Omega.{arith}
 use mathlib.Core.Path.{◌≡◌, refl, ap, subst, ◌∙◌}
 use mathlib.Core.Bool.{Bool, true, false}
-use mathlib.Core.List.{List, [], ◌∷◌, ◌++◌}
+use mathlib.Core.List.{List, [], ◌++◌}
 use lib.Dec.{ltb}
-use lib.ListN.{length, take, drop, set, replicate, length-take, length-drop, length-replicate, replicate-append-replicate}
+use lib.ListN.{length, take, drop, replicate, length-take, length-drop, length-replicate, replicate-append-replicate}
 use lib.Seq.{take_at, drop_at, drop-drop}
 use borrow.Author.Tests.{ltb-true, ltb-false}
 use borrow.Rule.Slice.PartMut.{mid_of, put_mid}
@@ -45,14 +43,6 @@ unfolding part
 stretch-length i s h = simp (length-take, length-drop) (omega arith)
 
 -- ---- cleared
-clear_next : (S : List ℕ) (j : ℕ) → j < length S → set (replicate j 0 ++ drop j S) j 0 ≡ replicate (suc j) 0 ++ drop (suc j) S
-clear_next [] j l = absurd (not-suc-le-zero l)
-clear_next (y ∷ S) zero l = refl
-clear_next (y ∷ S) (suc j) l = ap (λ (w : List ℕ). 0 ∷ w) (clear_next S j (le_of_suc-le-suc l))
-
-pub clear-turn : (S : List ℕ) (j : ℕ) → j < length S → set (replicate j 0 ++ drop j S) j 0 ≡ replicate (j + 1) 0 ++ drop (j + 1) S
-clear-turn S j l = rw (add-one j) (clear_next S j l)
-
 same-part : (b k r x : ℕ) → part k b (replicate (b + (k + r)) x) ≡ replicate k x
 unfolding part
 same-part b k r x =

@@ -1,23 +1,17 @@
-use mathlib.Core.Logic.{inl, inr}
-use native.Mathlib.Omega.{arith}
-use Rattle.delays.specs.Cells.{dist_of}
-use Rattle.delays.proofs.Cells.{cell-near, cell-far, cell_cut, sum-none, sum-far, sum-at, plain_word, plain-far, plain-none}
+use Rattle.std.proofs.Common.{◌∙◌, arith}
+use Rattle.delays.specs.Graph.{plus}
+use Rattle.delays.proofs.Cells.{sum-left, sum-right}
 use Rattle.delays.proofs.sum.Goals as goal
+use Rattle.delays.proofs.sum.Goals.{in_default-via-in-At+in_default, in_default-via-in_default}
 
-pub returns-then-a-gt1 : goal.returns-then-a-gt1
-returns-then-a-gt1 c = record { sum = sum-none _ _ _ _ (inl c.if-a-gt1.true); plain = plain-none }
+pub returns-in-Some : goal.returns-in-Some
+unfolding plus
+returns-in-Some c = let e = c.in-Some.ensures in rw (c.in-At-At.is-0, c.in-At-At.is-1) (omega (arith, e))
 
-pub returns-then-b-gt1 : goal.returns-then-b-gt1
-returns-then-b-gt1 c = record { sum = sum-none _ _ _ _ (inr c.if-b-gt1.true); plain = plain-none }
+pub returns-in-None : goal.returns-in-None
+unfolding plus
+returns-in-None c = let e = c.in-None.ensures in rw (c.in-At-At.is-0, c.in-At-At.is-1) (omega (arith, e))
 
-pub returns-then-a-eq1 : goal.returns-then-a-eq1
-returns-then-a-eq1 c = let a = c.args in record { sum = sum-far (dist_of a.a) (dist_of a.b) (cell-near _ _ (omega arith)) (cell-near _ _ (omega arith)) (omega (arith, cell-far a.a.kind a.a.value c.if-a-eq1.true)); plain = plain-far }
-
-pub returns-then-b-eq1 : goal.returns-then-b-eq1
-returns-then-b-eq1 c = let a = c.args in record { sum = sum-far (dist_of a.a) (dist_of a.b) (cell-near _ _ (omega arith)) (cell-near _ _ (omega arith)) (omega (arith, cell-far a.b.kind a.b.value c.if-b-eq1.true)); plain = plain-far }
-
-pub returns-then-a-b : goal.returns-then-a-b
-returns-then-a-b c = record { sum = sum-at _ _ _ _ (omega arith) (omega arith) (omega arith); plain = plain_word _ }
-
-pub returns-else-a-b : goal.returns-else-a-b
-returns-else-a-b c = let a = c.args in record { sum = sum-far (dist_of a.a) (dist_of a.b) (cell-near _ _ (omega arith)) (cell-near _ _ (omega arith)) (omega (arith, cell_cut a.a.kind a.a.value (omega arith), cell_cut a.b.kind a.b.value (omega arith))); plain = plain-far }
+pub returns-in_default : goal.returns-in_default
+returns-in_default c = c.farther.ensures ∙
+    elim c.in_default.branch [ in_default-via-in-At+in_default w ↦ sum-right _ _ w.in_default.not-At-1 | in_default-via-in_default w ↦ sum-left _ _ w.in_default.not-At-0 ]

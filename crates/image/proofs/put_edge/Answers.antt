@@ -11,7 +11,7 @@ put_words-next-requires c = (
   omega (
     arith,
     put_next 16 (omega (arith, length-bytes 8 c.args.id)) c.put_u64-ends.ensures,
-    length-words (c.wide.result ∷ c.wide-2.result ∷ []),
+    length-words (c.from.result ∷ c.from-2.result ∷ []),
   ),
   (omega arith, (omega arith, tt)),
 )
@@ -21,12 +21,12 @@ put_u64-requires c = put_next 8
     (omega (
       arith,
       put_next 16 (omega (arith, length-bytes 8 c.args.id)) c.put_u64-ends.ensures,
-      length-words (c.wide.result ∷ c.wide-2.result ∷ []),
+      length-words (c.from.result ∷ c.from-2.result ∷ []),
     ))
     c.put_words-next.ensures
 
 pub returns : goal.returns
 unfolding edge_bytes
-returns c = rw (← c.wide.ensures.0, ← c.wide-2.ensures.0)
+returns c = rw (← c.from.ensures, ← c.from-2.ensures)
     (put_then (omega arith) c.put_u64-ends.ensures
     (put_then (omega (arith, put_next 16 (omega (arith, length-bytes 8 c.args.id)) c.put_u64-ends.ensures)) c.put_words-next.ensures c.put_u64.ensures))

@@ -1,20 +1,14 @@
-use native.Mathlib.Omega.{arith}
-use mathlib.Core.Path.{sym, ◌∙◌}
-use Rattle.kinds.proofs.Tests.{either-yes, either-no}
-use Rattle.kinds.proofs.Searches.{holds-step, holds-end}
+use Rattle.std.proofs.Common.{rules, ◌≡◌, ◌∙◌, refl, arith, tests}
+use Rattle.std.proofs.lemmas.Iterator.{YieldsList-from_range}
+use Rattle.std.proofs.lemmas.Iterator.Search.{any_from_yields_List}
+use Rattle.std.specs.List.{list_any, range_with_len}
+use Rattle.tags.specs.Tags.{same_tag}
+use Rattle.transit.specs.Words.{slot_at}
+use Rattle.kinds.proofs.Searches.{any-holds}
 use Rattle.kinds.proofs.holds_in.Goals as goal
 
--- `kinds::holds_in` meets its contract.
-
-pub returns-then-equal : goal.returns-then-equal
-returns-then-equal c =
-    let turn = c.loop-i.invariant.1 ∙ holds-step c.args.t c.slot.result c.args.count c.loop-i.i c.args.s.now c.slot.ensures (omega arith) (omega arith) in
-    sym (turn ∙ either-yes _ _ (sym c.equal.ensures ∙ c.if-equal.true))
-
-pub loop-i-preserved : goal.loop-i-preserved
-loop-i-preserved c =
-    let turn = c.loop-i.invariant.1 ∙ holds-step c.args.t c.slot.result c.args.count c.loop-i.i c.args.s.now c.slot.ensures (omega arith) (omega arith) in
-    (omega arith, turn ∙ either-no _ _ (sym c.equal.ensures ∙ c.if-equal.false))
-
 pub returns : goal.returns
-returns c = sym (c.loop-i.invariant.1 ∙ holds-end _ _ _ _ c.loop-i-test.false (omega arith))
+returns c =
+    let h : c.any.result ≡ list_any (λ i. same_tag c.args.t (slot_at i c.args.s.now)) (range_with_len 0 c.args.count) =
+    any_from_yields_List (λ i. same_tag c.args.t (slot_at i c.args.s.now)) _ _ c.any.result c.any.ensures.ran (YieldsList-from_range 0 c.args.count c.args.count refl (omega arith)) (λ x b q k. search (rules, tests)) in
+    h ∙ any-holds c.args.t c.args.s.now c.args.count 0 c.args.count (omega arith) (omega arith)

@@ -1,18 +1,11 @@
-use Rattle.members.proofs.Steps.{every_more, blank-next}
-use Prim.Native.Nat.{◌-◌}
-use mathlib.Core.Path.{◌≡◌, refl}
-use native.Mathlib.Omega.{arith}
-use Rattle.members.specs.Formed.{every}
+use Rattle.std.proofs.Common.{rules, tests, ◌-◌, take, drop, arith, ◌∙◌}
+use Rattle.std.proofs.lemmas.Iterator.{YieldsList-from_slice}
+use Rattle.std.proofs.lemmas.Iterator.Search.{all_from_yields_List}
+use Rattle.members.specs.Formed.{is_blank}
+use Rattle.members.proofs.Every.{every-rest}
 use Rattle.members.proofs.all_blank.Goals as goal
 
--- `members::all_blank` meets its contract.
-
-pub loop-k-init : goal.loop-k-init
-unfolding every
-loop-k-init c = (omega arith, refl)
-
-pub loop-k-preserved : goal.loop-k-preserved
-loop-k-preserved c = (omega arith, every_more _ _ _ _ _ c.both_hold-all.ensures c.loop-k.invariant.1 (blank-next _ _ _ _ c.is_blank.ensures))
-
 pub returns : goal.returns
-returns c = let e : c.loop-k.k ≡ 32 - c.args.n = omega arith in cc
+returns c =
+    all_from_yields_List is_blank _ _ c.all.result c.all.ensures.ran (YieldsList-from_slice (take (32 - c.args.n) (drop c.args.n c.args.s.now.members)) (search rules)) (λ x b q k. search (rules, tests))
+    ∙ every-rest c.args.s.now c.args.n (omega arith)

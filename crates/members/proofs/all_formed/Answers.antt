@@ -1,22 +1,14 @@
-use Rattle.members.proofs.Steps.{every_more, formed-next}
-use mathlib.Core.Path.{◌≡◌, refl}
-use native.Mathlib.Omega.{arith}
-use Rattle.members.specs.Formed.{every}
+use Rattle.std.proofs.Common.{rules, tests, arith, ◌∙◌}
+use Rattle.std.proofs.lemmas.Iterator.{YieldsList-from_range}
+use Rattle.std.proofs.lemmas.Iterator.Search.{all_from_yields_List}
+use Rattle.rows.specs.Nets.{net_in}
+use Rattle.members.specs.Formed.{formed_at}
+use Rattle.members.proofs.Every.{every-range}
 use Rattle.members.proofs.all_formed.Goals as goal
 
--- `members::all_formed` meets its contract.
-
-pub loop-i-init : goal.loop-i-init
-unfolding every
-loop-i-init c = (omega arith, refl)
-
-pub formed_record-requires : goal.formed_record-requires
-formed_record-requires c = let small = c.requires.0.small c.loop-i.i (omega arith) in
-    (omega arith, omega arith, omega arith)
-
-pub loop-i-preserved : goal.loop-i-preserved
-loop-i-preserved c = let x = formed-next _ _ _ _ _ _ c.formed_record.ensures c.capacity.ensures in
-    (omega arith, every_more _ _ _ _ _ c.both_hold-all.ensures c.loop-i.invariant.1 x)
-
 pub returns : goal.returns
-returns c = let e : c.loop-i.i ≡ c.args.n = omega arith in cc
+unfolding formed_at net_in
+returns c =
+    let test = formed_at (net_in c.args.plan.now) c.args.s.now c.args.slab.now in
+    all_from_yields_List test _ _ c.all.result c.all.ensures.ran (YieldsList-from_range 0 c.args.n c.args.n (search rules) (omega arith)) (λ x b q k. search (rules, tests))
+    ∙ every-range test c.args.n

@@ -1,19 +1,6 @@
-use mathlib.Core.Path.{◌≡◌, refl}
-use native.Mathlib.Omega.{arith}
-use native.Mathlib.Numerals.{add-one}
-use Rattle.members.specs.Rules.{tags_to}
+use Rattle.std.proofs.Common.{rules}
+use Rattle.members.specs.Rules.{earliest_at}
 use Rattle.members.proofs.earliest_all.Goals as goal
 
--- `members::earliest_all` meets its contract.
-
-pub loop-i-init : goal.loop-i-init
-unfolding tags_to
-loop-i-init c = (omega arith, refl)
-
-pub loop-i-preserved : goal.loop-i-preserved
-unfolding tags_to
-loop-i-preserved c = let e = c.earliest.ensures _ (c.requires.2.at c.loop-i.i (omega arith)) in
-    (omega arith, rw add-one (cc))
-
 pub returns : goal.returns
-returns c = let e : c.loop-i.i ≡ c.args.n = omega arith in cc
+returns c = c.tags_of.ensures (earliest_at c.args.s.now c.args.slab.now) (λ k t l p. let h = c.requires.2.at k l in search rules)

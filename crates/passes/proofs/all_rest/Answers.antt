@@ -1,17 +1,13 @@
-use Rattle.passes.specs.Pages.{rest_at}
-use Rattle.states.specs.Steps.{every}
-use mathlib.Core.Path.{◌≡◌, refl, ◌∙◌}
-use native.Mathlib.Numerals.{add-one}
-use native.Mathlib.Omega.{arith}
+use Rattle.std.proofs.Common.{rules, tests, take, arith, ◌∙◌}
+use Rattle.std.proofs.lemmas.List.{length-take}
+use Rattle.std.proofs.lemmas.Iterator.{YieldsList-from_slice}
+use Rattle.std.proofs.lemmas.Iterator.Search.{all_from_yields_List}
+use Rattle.states.specs.Records.{blank_record}
+use Rattle.states.proofs.Every.{every-all}
+use Rattle.passes.specs.Pages.{resting}
 use Rattle.passes.proofs.all_rest.Goals as goal
 
-pub loop-k-init : goal.loop-k-init
-unfolding every
-loop-k-init c = (omega arith, refl)
-
-pub loop-k-preserved : goal.loop-k-preserved
-unfolding every rest_at
-loop-k-preserved c = (omega arith, rw (add-one, c.both_hold-all.ensures, c.rests.ensures, c.loop-k.invariant.1))
-
 pub returns : goal.returns
-returns c = let l = c.loop-k in let e : l.k ≡ c.args.n = omega arith in l.invariant.1 ∙ rw e
+returns c =
+    all_from_yields_List resting _ _ c.all.result c.all.ensures.ran (YieldsList-from_slice (take c.args.n c.args.s.now.members) (search rules)) (λ x b q k. search (rules, tests))
+    ∙ every-all resting c.args.s.now.members blank_record c.args.n (omega (arith, length-take c.args.n c.args.s.now.members))

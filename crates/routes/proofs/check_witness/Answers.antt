@@ -1,17 +1,18 @@
-use Rattle.plans.proofs.Right.{reading-fits}
+use Rattle.std.proofs.Common.{Ok, Err, refl, ◌∙◌, ne_eqb, eq-eqb, arith}
+use borrow.Author.Tests.{lt-leb}
+use Rattle.plans.specs.Reading.{reading}
 use Rattle.routes.proofs.Closed.{accepts-refused, accepts-long, accepts-by}
-use native.Mathlib.Omega.{arith}
+use Rattle.routes.proofs.Sought.{read-fits, not_zero}
 use Rattle.routes.proofs.check_witness.Goals as goal
 
-pub returns-then-refusal-ne0 : goal.returns-then-refusal-ne0
-returns-then-refusal-ne0 c = accepts-refused _ _ _ c.read-reading.ensures c.if-refusal-ne0.true
-
-pub returns-then-walk-gt-MOST : goal.returns-then-walk-gt-MOST
-returns-then-walk-gt-MOST c = accepts-long _ _ c.if-walk-gt-MOST.true
-
 pub closes-requires : goal.closes-requires
-closes-requires c = let r = c.read-reading.ensures in
-    (rw r (reading-fits _), omega arith)
+closes-requires c = (read-fits _ _ c.in-Ok.ensures, omega arith)
 
-pub returns : goal.returns
-returns c = accepts-by _ _ _ _ c.read-reading.ensures c.if-refusal-ne0.false (omega arith) c.closes.ensures
+pub returns-then-walk-le-MOST : goal.returns-then-walk-le-MOST
+returns-then-walk-le-MOST c = accepts-by _ _ (reading (Ok c.in-Ok.plan)) _ c.in-Ok.ensures refl (omega arith) c.closes.ensures
+
+pub returns-else-walk-le-MOST : goal.returns-else-walk-le-MOST
+returns-else-walk-le-MOST c = lt-leb _ _ (omega arith) ∙ accepts-long c.args.bytes.now c.args.walk (omega arith)
+
+pub returns-in-Err : goal.returns-in-Err
+returns-in-Err c = accepts-refused _ _ (reading (Err c.in-Err.field-0)) c.in-Err.ensures (not_zero c.in-Err.field-0)

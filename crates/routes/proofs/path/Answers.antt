@@ -1,12 +1,16 @@
-use Rattle.plans.proofs.Right.{reading-fits}
-use Rattle.routes.proofs.Sought.{sought_nothing, refused-first, refused-then}
+use Rattle.std.proofs.Common.{Ok, refl}
+use Rattle.std.proofs.lemmas.Result.{err_from_is_err_and}
+use Rattle.plans.specs.Reading.{reading}
+use Rattle.routes.proofs.Sought.{read-fits, path-refused, refused-then}
 use Rattle.routes.proofs.path.Goals as goal
 
-pub returns-then-refusal-ne0 : goal.returns-then-refusal-ne0
-returns-then-refusal-ne0 c = let r = c.read-reading in sought_nothing _ _ _ _ _ (refused-first _ _ r.ensures c.if-refusal-ne0.true) _ c.nothing.ensures c.if-refusal-ne0.true
+pub returns-in_err-plan : goal.returns-in_err-plan
+returns-in_err-plan c =
+    let p = err_from_is_err_and c.from_residual.result c.from_residual.ensures.1 in
+    rw (p.1, p.2) (path-refused _ _ _ c.in_err-plan.field-0.0 c.in_err-plan.ensures)
 
 pub path_in-requires : goal.path_in-requires
-path_in-requires c = rw c.read-reading.ensures (reading-fits _)
+path_in-requires c = read-fits _ _ c.in_ok-plan.ensures
 
 pub returns : goal.returns
-returns c = refused-then _ _ _ _ _ c.read-reading.ensures c.if-refusal-ne0.false c.path_in.ensures
+returns c = refused-then _ (reading (Ok c.in_ok-plan.plan)) _ _ _ c.in_ok-plan.ensures refl c.path_in.ensures

@@ -1,22 +1,8 @@
-use borrow.Author.Count.{below_more}
-use Rattle.recognised.proofs.Cells.{tells_true, tells_false}
-use native.Mathlib.Omega.{arith}
+use Rattle.std.proofs.Common.{rules, tests, ◌≤◌}
+use Rattle.rows.specs.Rows.{edge_delay}
+use Rattle.recognised.specs.Recognised.{limit}
+use Rattle.recognised.proofs.Cells.{all-tells}
 use Rattle.recognised.proofs.claims.short_edges.Goals as goal
 
-pub loop-k-init : goal.loop-k-init
-loop-k-init c = (omega arith, λ x l. absurd (omega arith))
-
-pub returns-then-edge_delay-gt-LIMIT : goal.returns-then-edge_delay-gt-LIMIT
-returns-then-edge_delay-gt-LIMIT c = let l = c.loop-k in tells_false (λ all. absurd (omega (arith, all l.k (omega arith))))
-
-pub overflow_add-k : goal.overflow_add-k
-overflow_add-k c = omega arith
-
-pub loop-k-smaller : goal.loop-k-smaller
-loop-k-smaller c = omega arith
-
-pub loop-k-preserved : goal.loop-k-preserved
-loop-k-preserved c = let l = c.loop-k in (omega arith, below_more _ _ l.invariant.1 (omega arith))
-
 pub returns : goal.returns
-returns c = let l = c.loop-k in tells_true (λ x h. l.invariant.1 x (omega arith))
+returns c = all-tells _ _ _ (λ k. edge_delay c.args.plan.now k ≤ limit) c.all.ensures.ran (λ x q k. search (rules, tests)) (λ x q k. search (rules, tests))

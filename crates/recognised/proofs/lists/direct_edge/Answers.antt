@@ -1,21 +1,19 @@
-use Rattle.delays.proofs.Cells.{cell_at}
-use Rattle.delays.specs.Cells.{cell}
-use mathlib.Core.Path.{◌≡◌, refl}
-use native.Mathlib.Omega.{arith}
+use Rattle.std.proofs.Common.{◌≡◌, arith, min}
+use Rattle.delays.specs.Graph.{far}
 use Rattle.recognised.proofs.lists.direct_edge.Goals as goal
 
-pub overflow_mul-s : goal.overflow_mul-s
-overflow_mul-s c = let R = c.requires.2.edge c.args.k c.requires.3 in
-    omega (arith, R.from, R.to, c.requires.2.header.few)
+pub overflow_mul-p : goal.overflow_mul-p
+overflow_mul-p c = let R = c.requires.0.edge c.args.k c.requires.1 in
+    omega (arith, R.from, R.to, c.requires.0.header.few)
 
-pub overflow_add-s : goal.overflow_add-s
-overflow_add-s c = let R = c.requires.2.edge c.args.k c.requires.3 in
-    omega (arith, R.from, R.to, c.requires.2.header.few)
+pub overflow_add-p : goal.overflow_add-p
+overflow_add-p c = let R = c.requires.0.edge c.args.k c.requires.1 in
+    omega (arith, R.from, R.to, c.requires.0.header.few)
 
 pub lower-requires : goal.lower-requires
-lower-requires c = let R = c.requires.2.edge c.args.k c.requires.3 in
-    omega (arith, R.from, R.to, c.requires.2.header.few)
+lower-requires c = let R = c.requires.0.edge c.args.k c.requires.1 in
+    omega (arith, R.from, R.to, c.requires.0.header.few)
 
 pub returns : goal.returns
-returns c = let e : cell 0 c.edge_delay-d.result ≡ c.edge_delay-d.result = cell_at 0 c.edge_delay-d.result refl (omega arith) in
-    rw (← c.edge_source-s.ensures, ← c.edge_target-t.ensures, ← c.edge_delay-d.ensures, ← e) c.lower.ensures
+returns c = let e : min c.edge_delay.result far ≡ c.edge_delay.result = omega arith in
+    rw (← c.edge_source.ensures, ← c.edge_target.ensures, ← c.edge_delay.ensures, ← e) c.lower.ensures

@@ -3,4 +3,4 @@ use Rattle.recognised.proofs.pairs.fair_at.Goals as goal
 
 pub returns : goal.returns
 unfolding grid
-returns c = c.fair.ensures
+returns c = rw (← c.get.ensures.number, ← c.get-2.ensures.number) c.fair.ensures

@@ -1,6 +1,6 @@
+use Rattle.std.proofs.Common.{arith}
 use Rattle.recognised.specs.Words.{table}
 use Rattle.recognised.proofs.Words.{passed-edge}
-use native.Mathlib.Omega.{arith}
 use Rattle.recognised.proofs.plain.pass_edge.Goals as goal
 
 pub returns : goal.returns

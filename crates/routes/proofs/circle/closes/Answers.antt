@@ -1,16 +1,10 @@
-use mathlib.Core.Path.{◌∙◌}
-use native.Mathlib.Omega.{arith}
+use Rattle.std.proofs.Common.{◌∙◌, ne_eqb, eq-eqb, arith}
 use Rattle.routes.proofs.Sized.{walk-long}
 use Rattle.routes.proofs.Closed.{closes-none, closes-some}
 use Rattle.routes.proofs.circle.closes.Goals as goal
 
-pub returns-then-walk-eq0 : goal.returns-then-walk-eq0
-returns-then-walk-eq0 c = closes-none c.args.plan _ _ (walk-long c.args.walk _ c.well_formed.1.0) (omega arith) c.if-walk-eq0.true
+pub returns-then-walk-ne0 : goal.returns-then-walk-ne0
+returns-then-walk-ne0 c = c.closing.ensures ∙ closes-some c.args.plan.now _ _ (walk-long c.args.walk _ c.well_formed.1.0) (omega arith) c.if-walk-ne0.true
 
-pub closing-requires : goal.closing-requires
-closing-requires c = let F = c.requires.0 in
-    (F.routed, F.sources, F.targets, F.delays, omega (arith, walk-long c.args.walk _ c.well_formed.1.0, c.requires.1))
-
-pub returns : goal.returns
-returns c = let s = c in
-    c.closing.ensures ∙ closes-some s.args.plan _ _ (walk-long s.args.walk _ s.well_formed.1.0) s.requires.1 c.if-walk-eq0.false
+pub returns-else-walk-ne0 : goal.returns-else-walk-ne0
+returns-else-walk-ne0 c = rw (eq-eqb _ _ c.if-walk-ne0.false) (closes-none c.args.plan.now _ _ (walk-long c.args.walk _ c.well_formed.1.0) (omega arith) c.if-walk-ne0.false)

@@ -1,47 +1,18 @@
-use mathlib.Core.Path.{◌≡◌, refl, sym, ◌∙◌}
-use native.Mathlib.Omega.{arith}
-use Rattle.routes.specs.Closed.{every, closing}
-use Rattle.routes.proofs.Every.{every_more, every-stop}
-use Rattle.routes.proofs.Closed.{after-below}
+use Rattle.std.proofs.Common.{ℕ, ◌≡◌, true, false, get_or, sym, refl, arith, rules, tests}
+use Rattle.std.proofs.lemmas.Iterator.{serves_from_Range, cases_from_all, YieldsList-from_range}
+use Rattle.routes.specs.Closed.{after, goes_on, closing}
+use Rattle.routes.proofs.Every.{all-every}
 use Rattle.routes.proofs.circle.closing.Goals as goal
 
-pub loop-i-init : goal.loop-i-init
-unfolding every
-loop-i-init c = (omega arith, refl)
-
-pub after-k-requires : goal.after-k-requires
-after-k-requires c = omega arith
-
-pub offset_bounds-edges-i : goal.offset_bounds-edges-i
-offset_bounds-edges-i c = omega arith
-
-pub bounds-edges-i : goal.bounds-edges-i
-bounds-edges-i c = omega arith
-
-pub offset_bounds-edges-k : goal.offset_bounds-edges-k
-offset_bounds-edges-k c = let a = c.args in
-    omega (arith, after-below a.n c.loop-i.i (omega arith), c.after-k.ensures)
-
-pub bounds-edges-k : goal.bounds-edges-k
-bounds-edges-k c = let a = c.args in
-    omega (arith, after-below a.n c.loop-i.i (omega arith), c.after-k.ensures)
-
-pub returns-then-not-goes_on : goal.returns-then-not-goes_on
-unfolding closing
-returns-then-not-goes_on c = sym (every-stop _ c.args.n c.loop-i.i (omega arith) (rw c.after-k.ensures at (sym c.goes_on.ensures ∙ c.if-not-goes_on.true)))
-
-pub overflow_add-i : goal.overflow_add-i
-overflow_add-i c = omega arith
-
-pub loop-i-smaller : goal.loop-i-smaller
-loop-i-smaller c = omega arith
-
-pub loop-i-preserved : goal.loop-i-preserved
-loop-i-preserved c = let l = c.loop-i in
-    (omega arith, every_more _ l.i l.invariant.1 (rw c.after-k.ensures at (sym c.goes_on.ensures ∙ c.if-not-goes_on.false)))
+pub all-requires-clause-callable : goal.all-requires-clause-callable
+all-requires-clause-callable c = serves_from_Range (λ x q k. search (rules, tests)) (λ x low high. search rules)
 
 pub returns : goal.returns
 unfolding closing
-returns c = let l = c.loop-i in
-    let e : l.i ≡ c.args.n = omega arith in
-    sym (rw e at l.invariant.1)
+returns c =
+    let p = c.args.plan.now in
+    let es = c.args.walk.edges in
+    let n = c.args.walk.count in
+    let test = λ (i : ℕ). goes_on p.sources p.targets p.delays p.edges (get_or es i 0) (get_or es (after n i) 0) in
+    all-every test n _
+    (cases_from_all _ _ _ (λ i. test i ≡ true) (λ i. test i ≡ false) c.all.ensures.ran (YieldsList-from_range 0 n _ refl refl) (λ x q k. search (rules, tests)) (λ x q k. search (rules, tests)))

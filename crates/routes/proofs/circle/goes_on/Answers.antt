@@ -1,16 +1,12 @@
-use mathlib.Core.Path.{sym}
-use native.Mathlib.Omega.{arith}
-use Rattle.routes.proofs.Closed.{goes-not-here, goes-not-there, goes-late, goes_by}
+use Rattle.std.proofs.Common.{arith}
+use Rattle.std.proofs.lemmas.Bool.Decides.{nat_tests}
+use Rattle.routes.specs.Closed.{goes_on}
 use Rattle.routes.proofs.circle.goes_on.Goals as goal
 
-pub returns-then-m-i : goal.returns-then-m-i
-returns-then-m-i c = sym (goes-not-here _ _ _ _ _ _ (omega arith))
+pub returns-then-plan-i-eq0 : goal.returns-then-plan-i-eq0
+unfolding goes_on
+returns-then-plan-i-eq0 c = grind (arith, nat_tests)
 
-pub returns-then-m-j : goal.returns-then-m-j
-returns-then-m-j c = sym (goes-not-there _ _ _ _ _ _ (omega arith))
-
-pub returns-then-delays-i-ne0 : goal.returns-then-delays-i-ne0
-returns-then-delays-i-ne0 c = sym (goes-late _ _ _ _ _ _ c.if-delays-i-ne0.true)
-
-pub returns : goal.returns
-returns c = goes_by _ _ _ _ _ _ (omega arith) (omega arith) (omega arith)
+pub returns-else-plan-i-eq0 : goal.returns-else-plan-i-eq0
+unfolding goes_on
+returns-else-plan-i-eq0 c = grind (arith, nat_tests)

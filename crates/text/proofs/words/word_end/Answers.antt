@@ -1,7 +1,9 @@
-use native.Mathlib.Omega.{arith}
-use Rattle.text.specs.Words.{word_end}
+use Rattle.std.proofs.Common.{Option, ℕ, ◌∙◌, ap, length, unwrap_or}
+use Rattle.text.proofs.Places.{word_end-is}
 use Rattle.text.proofs.words.word_end.Goals as goal
 
-pub returns : goal.returns
-unfolding word_end
-returns c = record { value = c.find.ensures.value; lower_bound = (omega arith, c.find.ensures.bound) }
+pub returns-clause-value : goal.returns-clause-value
+returns-clause-value c =
+    c.unwrap_or.ensures
+    ∙ ap (λ (o : Option ℕ). unwrap_or o (length c.args.line.now)) c.find.ensures.value
+    ∙ word_end-is c.args.line.now c.args.from c.requires

@@ -1,4 +1,0 @@
-use Rattle.image.proofs.written.Goals as goal
-
-pub returns : goal.returns
-returns c = cc

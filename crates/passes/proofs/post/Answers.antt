@@ -1,4 +1,0 @@
-use Rattle.passes.proofs.post.Goals as goal
-
-pub returns : goal.returns
-returns c = rw c.send.ensures

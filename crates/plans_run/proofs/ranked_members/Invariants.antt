@@ -1,8 +1,0 @@
-use Prim.Native.Nat.{◌≤◌, ◌-◌}
-use Rattle.plans_run.proofs.ranked_members.Given as goal
-
-abbrev pub invariant-loop-k : goal.invariant-loop-k
-invariant-loop-k l = l.k ≤ 32
-
-abbrev pub decreases-loop-k : goal.decreases-loop-k
-decreases-loop-k l = 32 - l.k

@@ -1,4 +1,0 @@
-use Rattle.records.proofs.on_instant.Goals as goal
-
-pub returns-in-Finite : goal.returns-in-Finite
-returns-in-Finite c = simp c.in-Finite.is

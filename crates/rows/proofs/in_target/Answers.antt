@@ -1,9 +1,0 @@
-use borrow.Author.Rules.{rules}
-use Rattle.rows.specs.Rows.{field}
-use Rattle.rows.proofs.in_target.Goals as goal
-
--- `rows::in_target` meets its contract.
-
-pub returns : goal.returns
-unfolding field
-returns c = search rules

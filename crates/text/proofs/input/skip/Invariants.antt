@@ -1,8 +1,0 @@
-use Rattle.text.proofs.input.skip.Given as goal
-use Rattle.std.specs.Prelude.{◌≡◌, length}
-
-abbrev pub invariant-loop-turns : goal.invariant-loop-turns
-invariant-loop-turns g l = length l.buf ≡ length l.initial.buf
-
-abbrev pub decreases-loop-turns : goal.decreases-loop-turns
-decreases-loop-turns g l = l.turns
