@@ -1,6 +1,6 @@
 -- How the program holds delays: a kind byte and a word for each pair, 32 pairs to a row.
 -- Assumes nothing.
-use Rattle.std.specs.Prelude.{◌≡◌, ◌≢◌, ◌⊎◌, List, ℕ, ◌+◌, ◌*◌, ◌<◌, ◌≤◌, min, eqb, ltb, leb, get_or, length}
+use Rattle.std.specs.Prelude.{◌≡◌, ◌≢◌, ◌⊎◌, List, ℕ, ◌+◌, ◌*◌, ◌<◌, ◌≤◌, min, eqb, ltb, leb, get_or}
 use Rattle.basis.specs.Choice.{pick}
 use Rattle.delays.specs.Graph.{far, none, plus, next, via, direct}
 use Rattle.delays.specs.declared.Reach.{Reach}

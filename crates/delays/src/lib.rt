@@ -1,7 +1,7 @@
 // Delays between the members of a plan: direct, and minimum over all paths of one or more edges; refusals 8 and 9.
 #![tactic(auto)]
 
-ghost use Rattle.std.specs.Prelude.{◌≡◌, ℕ, ◌+◌, ◌*◌, ◌<◌, ◌≤◌, min, max, get_or, length, eqb, replicate, slice_set};
+ghost use Rattle.std.specs.Prelude.{◌≡◌, ◌+◌, ◌*◌, ◌<◌, ◌≤◌, min, max, get_or, eqb, replicate, slice_set};
 ghost use Rattle.plans.specs.Values.{Fits};
 ghost use Rattle.plans.specs.Numbers.{reason};
 ghost use Rattle.delays.specs.Graph.{far, plus, reach_of, direct_of, minimum_of};
@@ -68,7 +68,7 @@ fn farther(a: Reach, b: Reach) -> Reach
 }
 
 // A delay for each pair of members, 32 entries to a row: a kind byte, and a word. Kind 0 is the word, 1 too far, anything
-// else no path. The specs fix every byte and word (`Held`), so these are two arrays and not one of `Reach`.
+// else no path. Two arrays and not one of `Reach`: what may not change is that `Held` fixes every byte and word.
 #[derive(Clone, Copy)]
 pub struct Matrix {
     pub kinds: [u8; 1024],

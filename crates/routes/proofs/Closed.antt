@@ -7,16 +7,15 @@ use mathlib.Core.List.{List}
 use Prim.Native.Nat.{ℕ, ◌+◌, ◌-◌, ◌<◌, ◌≤◌}
 use native.Mathlib.Omega.{arith}
 use native.Mathlib.Decide.{ℕ_discrete}
-use borrow.Author.Tests.{ltb-true, leb-true, eqb-true, lt-ltb, le-ltb, le-leb, lt-leb, eq-eqb, ne_eqb}
-use lib.Dec.{ltb, eqb}
+use borrow.Author.Tests.{ltb-true, leb-true, eqb-true, lt-ltb, le-leb, lt-leb, eq-eqb, ne_eqb}
+use lib.Dec.{eqb}
 use lib.ListN.{length, get_or, take}
 use lib.Seq.{length-take-le, get_or-take}
-use Rattle.basis.specs.Choice.{both}
 use Rattle.plans.specs.declared.Plan.{Plan}
 use Rattle.plans.specs.Reading.{Reading, reading_of}
 use Rattle.routes.specs.declared.Walk.{Walk}
 use Rattle.routes.specs.Closed.{ClosedZero, after, goes_on, closing, closes_zero, listed, accepts}
-use Rattle.routes.proofs.Every.{both_true, both_if, both_first, both-second, every-at, every_if, every-agree}
+use Rattle.routes.proofs.Every.{both_true, both_if, both-second, every-at, every_if, every-agree}
 
 -- ---- the place after
 pub after_last : (n i : ℕ) → i + 1 ≡ n → after n i ≡ 0

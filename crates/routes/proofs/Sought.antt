@@ -16,8 +16,7 @@ use Rattle.plans.specs.Reading.{Reading, reading, reading_of}
 use Rattle.plans.proofs.Right.{reading-fits}
 use Rattle.delays.specs.Refusals.{or_else, refusal_of}
 use Rattle.delays.proofs.Refusals.{is_refused}
-use Rattle.routes.specs.declared.Walk.{Walk}
-use Rattle.routes.specs.Paths.{Found, found, Answered, walk_of, Blank, path_refusal, Sought, Attained}
+use Rattle.routes.specs.Paths.{Found, found, walk_of, Blank, path_refusal, Sought, Attained}
 use Rattle.routes.proofs.Attaining.{zeros, outside}
 
 -- ---- what is read

@@ -43,6 +43,9 @@ pub fn wide_field<const SIZE: usize>(plan: &[u8], place: usize, k: usize, offset
     basis::read_u64(plan, place + SIZE * k + offset)
 }
 
+// The readers below stay one a field, since their names are the fields: each is one call of a reader above, and a place and
+// an offset as parameters would be no plainer.
+
 // How many members the plan has.
 pub fn members(plan: &[u8]) -> usize
     requires { Laid plan.now }

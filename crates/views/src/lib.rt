@@ -44,7 +44,7 @@ pub fn counted(plan: &[u8]) -> Counts
     }
 }
 
-// Direct row k, by plain offsets.
+// Direct row k, by plain offsets. One function a table, as the readers of rows have one a field: a flag would be no plainer.
 pub fn direct_row(plan: &[u8], k: usize) -> Row
     requires { Laid plan.now × (k < directs plan.now) }
     ensures { result ≡ direct_row plan.now k }
@@ -73,7 +73,7 @@ impl<'a> View<'a> {
         ensures { result ≡ view_of plan.entry }
     {
         View {
-            plan: plan,
+            plan,
             counts: counted(plan),
         }
     }

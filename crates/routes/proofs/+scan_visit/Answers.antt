@@ -1,4 +1,4 @@
-use Rattle.std.proofs.Common.{◌≡◌, ℕ, ◌<◌, ◌+◌, None, get_or, sym, ap, ◌∙◌, arith, rules}
+use Rattle.std.proofs.Common.{◌≡◌, ◌<◌, None, get_or, sym, ap, ◌∙◌, arith, rules}
 use Rattle.routes.specs.Trails.{kept_of, seen_no, seen_of}
 use Rattle.routes.proofs.Trails.{leaving_true, leaves-on, seen-at, marked_seen, stands_seen, steps, repeats}
 use Rattle.routes.proofs.+scan_visit.Goals as goal

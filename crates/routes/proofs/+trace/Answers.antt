@@ -1,4 +1,4 @@
-use Rattle.std.proofs.Common.{◌≡◌, get_or, sym, refl, ◌∙◌, arith, rules}
+use Rattle.std.proofs.Common.{◌≡◌, get_or, sym, refl, arith, rules}
 use Rattle.delays.proofs.Search.{finds_some}
 use Rattle.routes.specs.declared.marking.Mark.TheVariants.{Not, Alone}
 use Rattle.routes.specs.Paths.{marks_of}

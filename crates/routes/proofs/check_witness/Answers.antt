@@ -1,4 +1,4 @@
-use Rattle.std.proofs.Common.{Ok, Err, refl, ◌∙◌, ne_eqb, eq-eqb, arith}
+use Rattle.std.proofs.Common.{Ok, Err, refl, ◌∙◌, arith}
 use borrow.Author.Tests.{lt-leb}
 use Rattle.plans.specs.Reading.{reading}
 use Rattle.routes.proofs.Closed.{accepts-refused, accepts-long, accepts-by}

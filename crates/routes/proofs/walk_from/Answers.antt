@@ -1,4 +1,4 @@
-use Rattle.std.proofs.Common.{◌≡◌, ℕ, refl, arith, rules, length, get_or, Fits, w64}
+use Rattle.std.proofs.Common.{◌≡◌, ℕ, arith, rules, length, get_or, Fits, w64}
 use Rattle.routes.proofs.Attaining.{zeros}
 use Rattle.routes.proofs.Witnesses.{keeping-held, sets-out, leaves, onward, closed_of}
 use Rattle.routes.proofs.walk_from.Goals as goal

@@ -1,7 +1,6 @@
-use Rattle.std.proofs.Common.{◌≡◌, ◌<◌, ltb, true, false, refl, sym, ◌∙◌, arith}
+use Rattle.std.proofs.Common.{refl, sym, ◌∙◌, arith}
 use borrow.Author.Tests.{lt-ltb, le-ltb}
-use Rattle.delays.specs.Cells.{grid}
-use Rattle.delays.specs.Refusals.{far_target, far_source, far_of}
+use Rattle.delays.specs.Refusals.{far_source, far_of}
 use Rattle.delays.proofs.Search.{first-start, first-here, first_on, first-end, finds_none}
 use Rattle.delays.proofs.Matrix.far_refusal.Goals as goal
 

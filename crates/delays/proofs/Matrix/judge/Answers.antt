@@ -1,4 +1,4 @@
-use Rattle.std.proofs.Common.{refl, ◌∙◌}
+use Rattle.std.proofs.Common.{refl}
 use Rattle.std.proofs.lemmas.Result.{err_from_is_err_and}
 use Rattle.delays.specs.Refusals.{judged, or_else}
 use Rattle.delays.proofs.Refusals.{is_refused}

@@ -1,4 +1,4 @@
-use Rattle.std.proofs.Common.{◌∙◌, ne_eqb, eq-eqb, arith}
+use Rattle.std.proofs.Common.{◌∙◌, eq-eqb, arith}
 use Rattle.routes.proofs.Sized.{walk-long}
 use Rattle.routes.proofs.Closed.{closes-none, closes-some}
 use Rattle.routes.proofs.circle.closes.Goals as goal

@@ -1,4 +1,4 @@
-use Rattle.std.proofs.Common.{ℕ, ◌≡◌, true, false, get_or, sym, refl, arith, rules, tests}
+use Rattle.std.proofs.Common.{ℕ, ◌≡◌, true, false, get_or, refl, rules, tests}
 use Rattle.std.proofs.lemmas.Iterator.{serves_from_Range, cases_from_all, YieldsList-from_range}
 use Rattle.routes.specs.Closed.{after, goes_on, closing}
 use Rattle.routes.proofs.Every.{all-every}

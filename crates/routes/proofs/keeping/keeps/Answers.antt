@@ -1,4 +1,4 @@
-use Rattle.std.proofs.Common.{sym, ◌∙◌, ne_eqb, ap}
+use Rattle.std.proofs.Common.{sym, ne_eqb}
 use Rattle.routes.proofs.Trails.{keep-late, keep-by}
 use Rattle.routes.proofs.keeping.keeps.Goals as goal
 
