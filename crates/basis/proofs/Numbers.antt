@@ -90,6 +90,13 @@ le-at k i l bs h e =
     let n : length bs ≡ suc k = ap length e ∙ length-take-le (suc k) (drop i l) (simp length-drop (omega arith)) in
     le-number k bs (omega arith) ∙ ap number (take_all (suc k) bs (omega arith) ∙ e)
 
+-- eight bytes at a place: as std reads them, and as two halves, the low one first
+pub eight-read : (i x : ℕ) (l bs : List ℕ) → i + 8 ≤ length l → x ≡ sum_through (λ j. byte_worth j (get_or bs j 0)) 7 → bs ≡ take 8 (drop i l) → x ≡ number_at 8 i l
+eight-read i x l bs h q e = q ∙ le-at 7 i l bs h e
+
+pub eight-halves : (i low high : ℕ) (l : List ℕ) → i + 8 ≤ length l → low ≡ number_at 4 i l → high ≡ number_at 4 (i + 4) l → low + 4294967296 * high ≡ number_at 8 i l
+eight-halves i low high l h p q = rw (p, q) (sym (at-add 4 4 i l (omega arith)))
+
 -- byte i and those above it
 pub le-bytes : (k i n : ℕ) → bytes_low_first i k n ≡ bytes k (n / 256 ^ i)
 unfolding bytes

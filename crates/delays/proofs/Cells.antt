@@ -1,7 +1,7 @@
 -- Laws of the cells: what a kind byte and a word say, and what a store leaves.
 -- Assumes nothing.
 use mathlib.Core.Bool.{true, false}
-use mathlib.Core.Path.{◌≡◌, refl, sym, subst, ap₂, ◌∙◌}
+use mathlib.Core.Path.{◌≡◌, refl, sym, subst, ◌∙◌}
 use mathlib.Core.Logic.{⊎_elim}
 use mathlib.Core.List.{List}
 use Prim.Native.Nat.{ℕ, ◌+◌, ◌*◌, ◌/◌, ◌%◌, ◌<◌, ◌≤◌, min, max}
@@ -16,7 +16,7 @@ use borrow.Author.Tests.{eq-eqb, ne_eqb, lt-ltb, le-ltb, le-leb, lt-leb}
 use Rattle.basis.specs.Choice.{pick}
 use Rattle.delays.specs.Graph.{far, none, plus, reach_of}
 use Rattle.delays.specs.declared.Reach.{Reach}
-use Rattle.delays.specs.Cells.{cell, dist_of, kind_of, word_of, Plain, Tidy, entry, grid, Holds, Held, Relaxed, Offered, Cleared}
+use Rattle.delays.specs.Cells.{cell, dist_of, kind_of, word_of, Plain, Tidy, entry, grid, Holds, Held, Offered, Cleared}
 use Rattle.delays.proofs.Walks.{le-or-lt, of-near, of-far, of_none, Size, near, just, past, size}
 use Rattle.delays.specs.declared.Reach.TheVariants.{At, TooFar, None}
 
@@ -74,21 +74,21 @@ sum-right a (At v) n = absurd (n v refl)
 sum-right a TooFar n = omega (arith, dist-top a)
 sum-right a None n = omega (arith, dist-top a)
 
-pub plain_word : (v : ℕ) → Plain 0 v
-plain_word v = record { kind = omega arith; word = λ h. absurd (omega arith) }
+pub plain_word : (v : ℕ) → v < far → Plain 0 v
+plain_word v l = record { kind = omega arith; word = λ h. absurd (omega arith); small = l }
 
 pub plain-far : Plain 1 0
-plain-far = record { kind = omega arith; word = λ h. refl }
+plain-far = record { kind = omega arith; word = λ h. refl; small = omega arith }
 
 pub plain-none : Plain 2 0
-plain-none = record { kind = omega arith; word = λ h. refl }
+plain-none = record { kind = omega arith; word = λ h. refl; small = omega arith }
 
 plain_of : (v : ℕ) → Plain (kind_of v) (word_of v)
 unfolding kind_of word_of
 plain_of v = go (size v)
   where
     go : Size v → Plain (pick (ltb v far) 0 (pick (leb v far) 1 2)) (pick (ltb v far) v 0)
-    go (near h) = simp (lt-ltb v far h) (plain_word v)
+    go (near h) = simp (lt-ltb v far h) (plain_word v h)
     go (just h) = simp (le-ltb v far (omega arith), le-leb v far (omega arith)) plain-far
     go (past h) = simp (le-ltb v far (omega arith), lt-leb v far (omega arith)) plain-none
 
@@ -100,24 +100,13 @@ tidied ks vs p k v hk hv new T = record { at = λ q l. at q l (ℕ_discrete q p)
     at q l (yes e) = rw e (rw (get_or-set_same ks p k 0 hk, get_or-set_same vs p v 0 hv) (new T))
     at q l (no n) = rw (get_or-set_other ks p q k 0 n, get_or-set_other vs p q v 0 n) (T.at q l)
 
--- a store at p, as a number is written, of the least of the entry there and the way by a and b
-pub stored : (ks vs ks' vs' : List ℕ) (p a b d x y z s : ℕ) → p < length ks → p < length vs
-    → ks' ≡ set ks p (kind_of d) → vs' ≡ set vs p (word_of d) → entry ks' vs' p ≡ d → d ≡ min x s → s ≡ plus y z
-    → x ≡ entry ks vs p → y ≡ entry ks vs a → z ≡ entry ks vs b → Relaxed ks vs ks' vs' p a b
-stored ks vs ks' vs' p a b d x y z s hk hv k v w e f ex ey ez =
+-- a store at p, as a number is written, of one that is no more than the entry there
+pub put : (ks vs ks' vs' : List ℕ) (p m : ℕ) → p < length ks → p < length vs
+    → ks' ≡ set ks p (kind_of m) → vs' ≡ set vs p (word_of m) → entry ks' vs' p ≡ m → m ≤ entry ks vs p
+    → Offered ks vs ks' vs' p m
+put ks vs ks' vs' p m hk hv k v w e =
     record {
-      here = w ∙ e ∙ ap₂ min ex (f ∙ ap₂ plus ey ez);
-      there = λ q n. rw (k, v, get_or-set_other ks p q (kind_of d) 0 n, get_or-set_other vs p q (word_of d) 0 n) refl;
-      tidy = λ T. rw (k, v) (tidied ks vs p (kind_of d) (word_of d) hk hv (λ _. plain_of d) T);
-    }
-
--- a store at p, as a number is written, of the least of the entry there and d
-pub put : (ks vs ks' vs' : List ℕ) (p d m x : ℕ) → p < length ks → p < length vs → d < far
-    → ks' ≡ set ks p (kind_of m) → vs' ≡ set vs p (word_of m) → entry ks' vs' p ≡ m → m ≡ min x (min d far) → x ≡ entry ks vs p
-    → Offered ks vs ks' vs' p d
-put ks vs ks' vs' p d m x hk hv hd k v w e ex =
-    record {
-      here = w ∙ e ∙ ap₂ min ex (omega arith);
+      here = w ∙ omega arith;
       there = λ q n. rw (k, v, get_or-set_other ks p q (kind_of m) 0 n, get_or-set_other vs p q (word_of m) 0 n) refl;
       tidy = λ T. rw (k, v) (tidied ks vs p (kind_of m) (word_of m) hk hv (λ _. plain_of m) T);
     }
@@ -182,13 +171,13 @@ word-of k v x h P e = go (kind k v)
     go (is_none p f) = simp (le-ltb x far (omega arith)) (P.word (omega arith))
 
 -- a tidy matrix that holds g is written as g says
-pub held_of : (ks vs : List ℕ) (g : ℕ → ℕ → ℕ) → ((q : ℕ) → get_or vs q 0 < far) → Tidy ks vs → Holds ks vs g → Held ks vs g
+pub held_of : (ks vs : List ℕ) (g : ℕ → ℕ → ℕ) → Tidy ks vs → Holds ks vs g → Held ks vs g
 unfolding grid
-held_of ks vs g w T H =
+held_of ks vs g T H =
     record {
       at = H.at;
-      kinds = λ s t a b. kind-of _ _ (g s t) (w (s * 32 + t)) (T.at (s * 32 + t) (omega arith)) (H.at s t a b);
-      words = λ s t a b. word-of _ _ (g s t) (w (s * 32 + t)) (T.at (s * 32 + t) (omega arith)) (H.at s t a b);
+      kinds = λ s t a b. let P = T.at (s * 32 + t) (omega arith) in kind-of _ _ (g s t) P.small P (H.at s t a b);
+      words = λ s t a b. let P = T.at (s * 32 + t) (omega arith) in word-of _ _ (g s t) P.small P (H.at s t a b);
     }
 
 pub holds_of : {ks vs : List ℕ} {g : ℕ → ℕ → ℕ} → Held ks vs g → Holds ks vs g

@@ -21,11 +21,11 @@ outside_of p F = direct-outside p.sources p.targets p.delays p.edges p.members F
 pub edges-of : (p : Plan) → Fits p → ((i : ℕ) → get_or p.delays i 0 < far) → Edges p.sources p.targets p.delays p.edges p.members
 edges-of p F w = record { fits = w; from = F.from; to = F.to }
 
-pub direct-held : (p : Plan) (ks vs : List ℕ) → ((q : ℕ) → get_or vs q 0 < far) → Spread p.sources p.targets p.delays p.edges ks vs → Held ks vs (direct_of p)
-direct-held p ks vs w S = held_of ks vs (direct_of p) w S.tidy S.held
+pub direct-held : (p : Plan) (ks vs : List ℕ) → Spread p.sources p.targets p.delays p.edges ks vs → Held ks vs (direct_of p)
+direct-held p ks vs S = held_of ks vs (direct_of p) S.tidy S.held
 
-pub minimum-held : (p : Plan) → Fits p → (ks vs ks' vs' : List ℕ) → ((q : ℕ) → get_or vs' q 0 < far)
+pub minimum-held : (p : Plan) → Fits p → (ks vs ks' vs' : List ℕ)
     → Held ks vs (direct_of p) → Closed ks vs ks' vs' p.members p.members → Held ks' vs' (minimum_of p)
-minimum-held p F ks vs ks' vs' w H C =
-    held_of ks' vs' (minimum_of p) w (C.tidy (tidy_of ks vs (direct_of p) H))
+minimum-held p F ks vs ks' vs' H C =
+    held_of ks' vs' (minimum_of p) (C.tidy (tidy_of ks vs (direct_of p) H))
     (closed ks vs ks' vs' (direct_of p) p.members F.few (outside_of p F) (holds_of H) C)

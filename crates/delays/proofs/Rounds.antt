@@ -11,7 +11,7 @@ use native.Mathlib.Decide.{ℕ_discrete}
 use borrow.Author.Tests.{eq-eqb, ne_eqb}
 use lib.ListN.{get_or}
 use Rattle.delays.specs.Graph.{none, plus, next, via, cost, direct}
-use Rattle.delays.specs.Cells.{entry, grid, Relaxed, Rowed, Rounded, Closed, Holds, Cleared, Offered, Spread}
+use Rattle.delays.specs.Cells.{entry, grid, Rowed, Rounded, Closed, Holds, Cleared, Offered, Spread}
 use Rattle.delays.proofs.Walks.{le-or-lt}
 use Rattle.delays.proofs.Cells.{cell-top}
 
@@ -20,11 +20,13 @@ unfolding grid
 grid-top ks vs s t = cell-top _ _
 
 module _ (ks vs : List ℕ) (k : ℕ) where
-  -- a round leaves its own column and row
-  next_col : (s : ℕ) → next (grid ks vs) k s k ≡ grid ks vs s k
+  -- with no path to k, a row is as it was
+  pub row-still : (s t : ℕ) → grid ks vs s k ≡ none → Rowed ks vs ks vs k s t
   unfolding next plus
-  next_col s = omega arith
+  row-still s t e =
+      record { done = λ j h. omega (arith, e, grid-top ks vs s j); rest = λ q h. refl; tidy = λ T. T }
 
+  -- a round leaves its own row
   next_row : (t : ℕ) → next (grid ks vs) k k t ≡ grid ks vs k t
   unfolding next plus
   next_row t = omega arith
@@ -34,20 +36,17 @@ module _ (ks vs : List ℕ) (k : ℕ) where
   row-none s = record { done = λ j h. absurd (omega arith); rest = λ q h. refl; tidy = λ T. T }
 
   module _ (ks₁ vs₁ : List ℕ) (s t : ℕ) (R : Rowed ks vs ks₁ vs₁ k s t) (tt : t < 32) where
-    leg : entry ks₁ vs₁ (s * 32 + k) ≡ grid ks vs s k
-    unfolding grid
-    leg = ⊎_elim (λ h. R.rest (s * 32 + k) (inr (omega arith))) (λ h. R.done k h ∙ next_col s) (le-or-lt t k)
-
     leg-on : entry ks₁ vs₁ (k * 32 + t) ≡ grid ks vs k t
     unfolding grid
     leg-on = ⊎_elim (λ h. R.rest (k * 32 + t) (inr (omega arith))) (λ h. R.rest (k * 32 + t) (inl (omega arith))) (le-or-lt s k)
 
-    pub row_more : (ks₂ vs₂ : List ℕ) → Relaxed ks₁ vs₁ ks₂ vs₂ (s * 32 + t) (s * 32 + k) (k * 32 + t) → Rowed ks vs ks₂ vs₂ k s (t + 1)
+    pub row_more : (ks₂ vs₂ : List ℕ) (d x y : ℕ) → d ≡ plus x y → x ≡ grid ks vs s k → y ≡ entry ks₁ vs₁ (k * 32 + t)
+        → Offered ks₁ vs₁ ks₂ vs₂ (s * 32 + t) d → Rowed ks vs ks₂ vs₂ k s (t + 1)
     unfolding next grid
-    row_more ks₂ vs₂ X = record { done = λ j h. done j (eq-or-lt_of_le (omega arith)); rest = rest; tidy = λ T. X.tidy (R.tidy T) }
+    row_more ks₂ vs₂ d x y e way on X = record { done = λ j h. done j (eq-or-lt_of_le (omega arith)); rest = rest; tidy = λ T. X.tidy (R.tidy T) }
       where
         done : (j : ℕ) → (j ≡ t) ⊎ (j < t) → grid ks₂ vs₂ s j ≡ next (grid ks vs) k s j
-        done j (inl e) = rw e (X.here ∙ ap₂ min (R.rest (s * 32 + t) (inr (omega arith))) (ap₂ plus leg leg-on))
+        done j (inl i) = rw i (X.here ∙ ap₂ min (R.rest (s * 32 + t) (inr (omega arith))) (e ∙ ap₂ plus way (on ∙ leg-on)))
         done j (inr l) = X.there (s * 32 + j) (omega arith) ∙ R.done j l
 
         rest : (q : ℕ) → (q < s * 32) ⊎ (s * 32 + (t + 1) ≤ q) → entry ks₂ vs₂ q ≡ entry ks vs q

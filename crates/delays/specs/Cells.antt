@@ -23,10 +23,11 @@ kind_of v = pick (ltb v far) 0 (pick (leb v far) 1 2)
 unfoldable pub word_of : ℕ → ℕ
 word_of v = pick (ltb v far) v 0
 
--- written so: no other kind, and the word 0 unless the kind is 0
+-- written so: no other kind, the word a word, and 0 unless the kind is 0
 pub record Plain (k v : ℕ) : Type 0 where
   pub kind : k ≤ 2
   pub word : 0 < k → v ≡ 0
+  pub small : v < far
 
 pub record Tidy (ks vs : List ℕ) : Type 0 where
   pub at : (q : ℕ) → q < 1024 → Plain (get_or ks q 0) (get_or vs q 0)
@@ -47,12 +48,6 @@ pub record Held (ks vs : List ℕ) (g : ℕ → ℕ → ℕ) : Type 0 where
   pub at : (s t : ℕ) → s < 32 → t < 32 → grid ks vs s t ≡ g s t
   pub kinds : (s t : ℕ) → s < 32 → t < 32 → get_or ks (s * 32 + t) 0 ≡ kind_of (g s t)
   pub words : (s t : ℕ) → s < 32 → t < 32 → get_or vs (s * 32 + t) 0 ≡ word_of (g s t)
-
--- entry p is the least of itself and the way by a and then b, and the others are as they were
-pub record Relaxed (ks vs ks' vs' : List ℕ) (p a b : ℕ) : Type 0 where
-  pub here : entry ks' vs' p ≡ min (entry ks vs p) (plus (entry ks vs a) (entry ks vs b))
-  pub there : (q : ℕ) → q ≢ p → entry ks' vs' q ≡ entry ks vs q
-  pub tidy : Tidy ks vs → Tidy ks' vs'
 
 -- entry p is the least of itself and d, and the others are as they were
 pub record Offered (ks vs ks' vs' : List ℕ) (p d : ℕ) : Type 0 where

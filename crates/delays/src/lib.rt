@@ -1,11 +1,11 @@
 // Delays between the members of a plan: direct, and minimum over all paths of one or more edges; refusals 8 and 9.
 #![tactic(auto)]
 
-ghost use Rattle.std.specs.Prelude.{◌≡◌, ◌+◌, ◌*◌, ◌<◌, ◌≤◌, min, max, get_or, eqb, replicate, slice_set};
+ghost use Rattle.std.specs.Prelude.{◌≡◌, ◌+◌, ◌*◌, ◌<◌, ◌≤◌, min, max, get_or, eqb, ltb, replicate, slice_set};
 ghost use Rattle.plans.specs.Values.{Fits};
 ghost use Rattle.plans.specs.Numbers.{reason};
 ghost use Rattle.delays.specs.Graph.{far, plus, reach_of, direct_of, minimum_of};
-ghost use Rattle.delays.specs.Cells.{cell, dist_of, kind_of, word_of, entry, grid, Relaxed, Rowed, Rounded, Closed, Held, Offered, Spread};
+ghost use Rattle.delays.specs.Cells.{cell, dist_of, kind_of, word_of, entry, grid, Rowed, Rounded, Closed, Held, Offered, Spread};
 ghost use Rattle.delays.specs.Search.{Finds};
 ghost use Rattle.delays.specs.Refusals.{first_loop, linked_by, component_of, far_target, cycle_of, far_of, judged, Analysed};
 
@@ -60,6 +60,13 @@ pub fn lesser(a: Reach, b: Reach) -> Reach
     a.min(b)
 }
 
+// Whether a is nearer than b.
+fn nearer(a: Reach, b: Reach) -> bool
+    ensures { result ≡ ltb (dist_of a) (dist_of b) }
+{
+    a < b
+}
+
 // The farther of the two.
 fn farther(a: Reach, b: Reach) -> Reach
     ensures { dist_of result ≡ max (dist_of a) (dist_of b) }
@@ -112,12 +119,14 @@ impl Matrix {
         self.values[p] = word;
     }
 
-    // Entry p is made the least of itself and the way by a and then b.
-    fn relax(&mut self, p: usize, a: usize, b: usize)
-        requires { (p < 1024) × (a < 1024) × (b < 1024) }
-        ensures { Relaxed self.old.kinds self.old.values self.new.kinds self.new.values p a b }
+    // Entry p is made the least of itself and r.
+    pub fn offer(&mut self, p: usize, r: Reach)
+        requires { p < 1024 }
+        ensures { Offered self.old.kinds self.old.values self.new.kinds self.new.values p (dist_of r) }
     {
-        self.set(p, lesser(self.get(p), sum(self.get(a), self.get(b))));
+        if nearer(r, self.get(p)) {
+            self.set(p, r);
+        }
     }
 
     // Row s of a round: its n entries may now go by member k.
@@ -125,8 +134,12 @@ impl Matrix {
         requires { (n ≤ 32) × (k < n) × (s < n) }
         ensures { Rowed self.old.kinds self.old.values self.new.kinds self.new.values k s n }
     {
+        let way = self.get(s * ROW + k);
+        if let Reach::None = way {
+            return;
+        }
         for t in 0..n {
-            self.relax(s * ROW + t, s * ROW + k, k * ROW + t);
+            self.offer(s * ROW + t, sum(way, self.get(k * ROW + t)));
         }
     }
 
@@ -140,23 +153,14 @@ impl Matrix {
         }
     }
 
-    // After every round: the least over all walks between n members.
-    fn closed(mut self, n: usize) -> Matrix
+    // Every round: the least over all walks between n members, of the matrix at entry.
+    fn close(&mut self, n: usize)
         requires { n ≤ 32 }
-        ensures { Closed self.kinds self.values result.kinds result.values n n }
+        ensures { Closed self.old.kinds self.old.values self.new.kinds self.new.values n n }
     {
         for k in 0..n {
             self.round(n, k);
         }
-        self
-    }
-
-    // Entry p is made the least of itself and d.
-    fn offer(&mut self, p: usize, d: u64)
-        requires { p < 1024 }
-        ensures { Offered self.old.kinds self.old.values self.new.kinds self.new.values p d }
-    {
-        self.set(p, lesser(self.get(p), Reach::At(d)));
     }
 
     // The plan's edge i is offered to its pair.
@@ -166,20 +170,20 @@ impl Matrix {
     {
         self.offer(
             usize::from(p.sources[i]) * ROW + usize::from(p.targets[i]),
-            p.delays[i],
+            Reach::At(p.delays[i]),
         );
     }
 
-    // The least delay of the plan's edges, for every pair.
-    fn direct(p: &Plan) -> Matrix
+    // No paths, and then the least delay of the plan's edges, for every pair.
+    fn spread(&mut self, p: &Plan)
         requires { Fits p.now }
-        ensures { Spread p.now.sources p.now.targets p.now.delays p.now.edges result.kinds result.values }
+        ensures { Spread p.now.sources p.now.targets p.now.delays p.now.edges self.new.kinds self.new.values }
     {
-        let mut m = Matrix::new();
+        self.kinds = [2; ENTRIES];
+        self.values = [0; ENTRIES];
         for i in 0..p.edges {
-            m.offer_edge(p, i);
+            self.offer_edge(p, i);
         }
-        m
     }
 
     // What it says of a pair.
@@ -286,7 +290,7 @@ pub fn direct_delays(p: Plan, directs: &mut Matrix)
     requires { Fits p }
     ensures { Held directs.new.kinds directs.new.values (direct_of p) }
 {
-    *directs = Matrix::direct(&p);
+    directs.spread(&p);
 }
 
 // The minimum delays of the plan's pairs, over all paths of one or more edges.
@@ -294,7 +298,8 @@ pub fn minimum_delays(p: Plan, minima: &mut Matrix)
     requires { Fits p }
     ensures { Held minima.new.kinds minima.new.values (minimum_of p) }
 {
-    *minima = Matrix::direct(&p).closed(p.members);
+    minima.spread(&p);
+    minima.close(p.members);
 }
 
 // Refusal 8 or 9 of the plan; and its direct and its minimum delays, each in a matrix, on Err too.

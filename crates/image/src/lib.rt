@@ -361,8 +361,12 @@ pub fn compile_plan(p: Plan, out: &mut [u8]) -> Result<usize, Refusal>
     requires { Fits p }
     ensures { Outcome (outcome_of p (length out.old)) p out.old out.new (compiled result) }
 {
-    let mut directs = Matrix::new();
-    let mut minima = Matrix::new();
+    // zeros, since `analyse` writes every entry: they are set in place, where a matrix that a call answers is copied
+    let mut directs = Matrix {
+        kinds: [0; 1024],
+        values: [0; 1024],
+    };
+    let mut minima = directs;
     analyse(p, &mut directs, &mut minima)?;
     fit(out, &p, &directs, &minima)
 }

@@ -8,6 +8,7 @@ use mathlib.Core.List.{List, [], ◌∷◌}
 use lib.Dec.{leb, eqb}
 use lib.ListN.{length}
 use borrow.Author.Tests.{leb-false}
+use Rattle.std.specs.Prelude.{Option}
 use Rattle.basis.specs.Choice.{not, either}
 use Rattle.basis.specs.Parts.{replaced}
 use Rattle.tags.specs.declared.Tag.{Tag}
@@ -16,7 +17,7 @@ use Rattle.transit.specs.Tags.{insert, after, full, IsFinite}
 use Rattle.transit.specs.Words.{slots, lay}
 use Rattle.states.specs.declared.Request.{Request}
 use Rattle.states.specs.declared.Request.TheVariants.{Hello, Publish, Complete, Payload, ConfirmIdle, Stop, Abort}
-use Rattle.states.specs.declared.Delivery.TheVariants.{Carried}
+use Rattle.states.specs.declared.Delivery.TheVariants.{Carried, Stopped}
 use Rattle.states.specs.declared.MemberState.{MemberState}
 use Rattle.states.specs.declared.State.{State}
 use Rattle.states.specs.Sessions.{Member, Session, view, put, with_joined, with_completed, with_transit, with_asked, with_stopped}
@@ -62,6 +63,9 @@ pub abort-never : (p : Net) (x : Session) (i c : ℕ) → refusal_of p x i (Abor
 unfolding refusal_of
 abort-never p x i c h = omega arith
 
+pub no-abort : (p : Net) (x : Session) (i : ℕ) (q : Request) → refusal_of p x i q ≡ 0 → (c : ℕ) → q ≡ Abort c → ⊥
+no-abort p x i q h c e = abort-never p x i c (subst (λ (r : Request). refusal_of p x i r ≡ 0) e h)
+
 -- ---- what is sent first
 pub sent-payload : (b : List ℕ) (x : Session) (i k : ℕ) (t : Tag) (h : ℕ) → k < edges b → (effect (net_in b) x i (Payload k t h)).sent ≡ Carried (edge_target b k) k t h ∷ []
 unfolding effect
@@ -91,17 +95,17 @@ module _ (b : List ℕ) (laid : Laid b) (s : State) (w : List ℕ) (fits : 64 * 
   )
 
   -- the kinds that leave the slab
-  pub keep-done : (i : ℕ) (q : Request) (r : State) → i < members b → refusal_of (net_in b) (session_of s w) i q ≡ 0
-      → ((t : Tag) → q ≡ Complete t → ⊥) → ((k : ℕ) (t : Tag) (p : ℕ) → q ≡ Payload k t p → ⊥) → r ≡ with_record s i (changed_record (record_at s i) q)
+  pub keep-done : (i : ℕ) (q : Request) (r : State) → i < members b → ((t : Tag) → q ≡ Complete t → ⊥) → ((k : ℕ) (t : Tag) (p : ℕ) → q ≡ Payload k t p → ⊥)
+      → ((c : ℕ) → q ≡ Abort c → ⊥) → r ≡ with_record s i (changed_record (record_at s i) q)
       → (r ≡ state_of (effect (net_in b) (session_of s w) i q).session) × (w ≡ slab_of (effect (net_in b) (session_of s w) i q).session w)
   unfolding effect publishing
-  keep-done i (Hello d) r l free c p e = keeps i (with_joined (view (session_of s w) i)) joined_record r l refl refl e
-  keep-done i (Publish v n) r l free c p e = keeps i (publishing (view (session_of s w) i) v n) (λ m. published_record m v n) r l refl refl e
-  keep-done i (Complete t) r l free c p e = absurd (c t refl)
-  keep-done i (Payload k t h) r l free c p e = absurd (p k t h refl)
-  keep-done i (ConfirmIdle v) r l free c p e = keeps i (with_asked (view (session_of s w) i) v) (λ m. asked_record m v) r l refl refl e
-  keep-done i Stop r l free c p e = keeps i (with_stopped (view (session_of s w) i)) stopped_record r l refl refl e
-  keep-done i (Abort c) r l free n p e = absurd (abort-never (net_in b) (session_of s w) i c free)
+  keep-done i (Hello d) r l c p a e = keeps i (with_joined (view (session_of s w) i)) joined_record r l refl refl e
+  keep-done i (Publish v n) r l c p a e = keeps i (publishing (view (session_of s w) i) v n) (λ m. published_record m v n) r l refl refl e
+  keep-done i (Complete t) r l c p a e = absurd (c t refl)
+  keep-done i (Payload k t h) r l c p a e = absurd (p k t h refl)
+  keep-done i (ConfirmIdle v) r l c p a e = keeps i (with_asked (view (session_of s w) i) v) (λ m. asked_record m v) r l refl refl e
+  keep-done i Stop r l c p a e = keeps i (with_stopped (view (session_of s w) i)) stopped_record r l refl refl e
+  keep-done i (Abort n) r l c p a e = absurd (a n refl)
 
   pub complete_done : (i : ℕ) (t : Tag) (r : State) (out : List ℕ) → i < members b → Completes s w i t r out
       → (r ≡ state_of (effect (net_in b) (session_of s w) i (Complete t)).session) × (out ≡ slab_of (effect (net_in b) (session_of s w) i (Complete t)).session w)
@@ -151,6 +155,27 @@ module _ (b : List ℕ) (laid : Laid b) (s : State) (w : List ℕ) (fits : 64 * 
               ∙ ap (λ (n : ℕ). state_of (put x n (with_transit (view x n) (insert t (view x n).transit)))) (sym to),
           d.1 ∙ put-slab j (with_transit (view x j) with) l ∙ ap (λ (n : ℕ). slab_of (put x n (with_transit (view x n) (insert t (view x n).transit))) w) (sym to),
         )
+
+-- what each kind sends first, on any plan
+pub sent-hello : (p : Net) (x : Session) (i d : ℕ) → (effect p x i (Hello d)).sent ≡ []
+unfolding effect
+sent-hello p x i d = refl
+
+pub sent_publish : (p : Net) (x : Session) (i r : ℕ) (e : Option Tag) → (effect p x i (Publish r e)).sent ≡ []
+unfolding effect
+sent_publish p x i r e = refl
+
+pub sent_complete : (p : Net) (x : Session) (i : ℕ) (t : Tag) → (effect p x i (Complete t)).sent ≡ []
+unfolding effect
+sent_complete p x i t = refl
+
+pub sent_confirm : (p : Net) (x : Session) (i r : ℕ) → (effect p x i (ConfirmIdle r)).sent ≡ []
+unfolding effect
+sent_confirm p x i r = refl
+
+pub sent-stop : (p : Net) (x : Session) (i : ℕ) → (effect p x i Stop).sent ≡ Stopped i ∷ []
+unfolding effect
+sent-stop p x i = refl
 
 -- ---- what is sent first, by every kind
 pub sent_is : (b : List ℕ) (x : Session) (i : ℕ) (q : Request) → Routed b q → (effect (net_in b) x i q).sent ≡ sent_first b i q

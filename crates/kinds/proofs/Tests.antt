@@ -13,7 +13,7 @@ or_yes a r z l e = grind arith
 pub numbered : (e : Cause) → 0 < cause_no e
 numbered e = grind arith
 
-or-first : (n a z : ℕ) → 0 < n → n ≡ a → n ≡ or_else a z
+pub or-first : (n a z : ℕ) → 0 < n → n ≡ a → n ≡ or_else a z
 or-first n a z l e = grind arith
 
 -- what refuses comes first

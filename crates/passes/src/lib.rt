@@ -137,7 +137,8 @@ fn in_turn<F: Fn(MemberState, usize) -> Option<Told>>(
 )
     requires callable { (m : MemberState) (j : ℕ) → j < n → F.pre turn m j }
     requires room { (n ≤ 32) × (7 * (p.old.sent + n) ≤ length out.old) }
-    ensures { (f : Page → ℕ → Page) → ((g : Page) (j : ℕ) (t : Option Told) → j < n → F.post turn (record_at g.progress.state j) j t → told g j t ≡ f g j) → on p.new out.new ≡ over_all f n (on p.old out.old) }
+    ensures page { (f : Page → ℕ → Page) → ((g : Page) (j : ℕ) (t : Option Told) → j < n → F.post turn (record_at g.progress.state j) j t → told g j t ≡ f g j) → on p.new out.new ≡ over_all f n (on p.old out.old) }
+    ensures sent { p.new.sent ≤ p.old.sent + n }
 {
     for j in 0..n {
         let t = turn(p.state.members[j], j);
@@ -148,7 +149,8 @@ fn in_turn<F: Fn(MemberState, usize) -> Option<Told>>(
 // Idle to each of n members to whom it is due, ascending.
 pub fn idle_all(p: &mut Progress, out: &mut [u64], n: usize)
     requires { (n ≤ 32) × (7 * (p.old.sent + n) ≤ length out.old) }
-    ensures { on p.new out.new ≡ over_all idle_at n (on p.old out.old) }
+    ensures page { on p.new out.new ≡ over_all idle_at n (on p.old out.old) }
+    ensures sent { p.new.sent ≤ p.old.sent + n }
 {
     in_turn(p, out, n, idle_to);
 }
@@ -156,7 +158,8 @@ pub fn idle_all(p: &mut Progress, out: &mut [u64], n: usize)
 // A bound to each of n members to whom it is due, ascending.
 pub fn bound_all(bounds: &[Tag; 32], p: &mut Progress, out: &mut [u64], n: usize)
     requires { (n ≤ 32) × (7 * (p.old.sent + n) ≤ length out.old) }
-    ensures { on p.new out.new ≡ over_all (bound_at bounds.now) n (on p.old out.old) }
+    ensures page { on p.new out.new ≡ over_all (bound_at bounds.now) n (on p.old out.old) }
+    ensures sent { p.new.sent ≤ p.old.sent + n }
 {
     in_turn(p, out, n, |m, j| bound_to(m, bounds[j], j));
 }
@@ -166,7 +169,8 @@ pub fn bound_all(bounds: &[Tag; 32], p: &mut Progress, out: &mut [u64], n: usize
 fn send_all<F: Fn(usize) -> Delivery>(p: &mut Progress, out: &mut [u64], n: usize, delivery: F)
     requires callable { F.IsAlwaysCallable delivery }
     requires room { (n ≤ 32) × (7 * (p.old.sent + n) ≤ length out.old) }
-    ensures { (f : Page → ℕ → Page) → ((g : Page) (k : ℕ) (d : Delivery) → k < n → F.post delivery k d → posting g d ≡ f g k) → on p.new out.new ≡ over_all f n (on p.old out.old) }
+    ensures page { (f : Page → ℕ → Page) → ((g : Page) (k : ℕ) (d : Delivery) → k < n → F.post delivery k d → posting g d ≡ f g k) → on p.new out.new ≡ over_all f n (on p.old out.old) }
+    ensures sent { p.new.sent ≡ p.old.sent + n }
 {
     for k in 0..n {
         p.send(out, delivery(k));
@@ -176,7 +180,8 @@ fn send_all<F: Fn(usize) -> Delivery>(p: &mut Progress, out: &mut [u64], n: usiz
 // Started to n members, ascending.
 pub fn start_all(mut p: Progress, out: &mut [u64], n: usize) -> Progress
     requires { (n ≤ 32) × (7 * (p.sent + n) ≤ length out.old) }
-    ensures { on result out.new ≡ over_all start_at n (on p out.old) }
+    ensures page { on result out.new ≡ over_all start_at n (on p out.old) }
+    ensures sent { result.sent ≡ p.sent + n }
 {
     send_all(&mut p, out, n, |k| Delivery::Started(k as u64));
     p
@@ -185,7 +190,8 @@ pub fn start_all(mut p: Progress, out: &mut [u64], n: usize) -> Progress
 // Failed to n members, ascending.
 pub fn fail_all(mut p: Progress, out: &mut [u64], cause: u64, code: u64, n: usize) -> Progress
     requires { (n ≤ 32) × (7 * (p.sent + n) ≤ length out.old) }
-    ensures { on result out.new ≡ over_all (fail_at cause code) n (on p out.old) }
+    ensures page { on result out.new ≡ over_all (fail_at cause code) n (on p out.old) }
+    ensures sent { result.sent ≡ p.sent + n }
 {
     send_all(&mut p, out, n, |k| Delivery::Failed(k as u64, cause, code));
     p
@@ -230,7 +236,8 @@ pub fn grants(plan: &[u8], times: &Times, p: &mut Progress, out: &mut [u64], i: 
 #[tactic(auto, unfolding(crate::specs::Pages::settled_in))]
 pub fn settle(bounds: &[Tag; 32], p: &mut Progress, out: &mut [u64], n: usize)
     requires { (n ≤ 32) × (7 * (p.old.sent + n) ≤ length out.old) }
-    ensures { on p.new out.new ≡ settled_in bounds.now n (on p.old out.old) }
+    ensures page { on p.new out.new ≡ settled_in bounds.now n (on p.old out.old) }
+    ensures sent { p.new.sent ≤ p.old.sent + n }
 {
     if all_rest(&p.state, n) {
         idle_all(p, out, n);
@@ -243,7 +250,8 @@ pub fn settle(bounds: &[Tag; 32], p: &mut Progress, out: &mut [u64], n: usize)
 #[tactic(auto, unfolding(crate::specs::Pages::follow_in, crate::specs::Pages::earliests_in, crate::specs::Pages::completeds_in))]
 pub fn follow(plan: &[u8], mut p: Progress, slab: &[u64], out: &mut [u64], i: usize) -> Progress
     requires { Laid plan.now × Mild plan.now × (i < members plan.now) × (downstream_count plan.now i < members plan.now) × Ready p.state slab.now (members plan.now) × (7 * (p.sent + members plan.now + members plan.now) ≤ length out.old) }
-    ensures { on result out.new ≡ follow_in plan.now slab.now (on p out.old) i }
+    ensures page { on result out.new ≡ follow_in plan.now slab.now (on p out.old) i }
+    ensures sent { result.sent ≤ p.sent + 1 + downstream_count plan.now i + members plan.now }
 {
     let n = rows::members(plan);
     let times = Times {

@@ -46,24 +46,27 @@ fn judge(plan: &[u8], n: usize, e: usize) -> Result<(), Fault>
     requires { Routed plan.now × ((i : ℕ) → i < n → MemberRight plan.now i) × (n ≡ members plan.now) × (e ≡ edges plan.now) }
     ensures { verdict result ≡ refusal_in plan.now }
 {
-    if !directs_right(plan, n, e) {
+    // one matrix for both, filled in place: a second one, or a copy, costs more than the rows do
+    let mut m = Matrix {
+        kinds: [2; 1024],
+        values: [0; 1024],
+    };
+    if !directs_right(plan, &mut m, n, e) {
         return Err(Fault::NoImage);
     }
-    let mut claimed = Matrix {
-        kinds: [2; 1024],
-        values: [LOST; 1024],
-    };
-    if !claim(plan, n, &mut claimed) {
+    m.kinds.fill(2);
+    m.values.fill(LOST);
+    if !claim(plan, n, &mut m) {
         return Err(Fault::NoImage);
     }
     let short = briefly(plan, e);
-    if !minima_right(plan, &claimed, n, e, short) {
+    if !minima_right(plan, &m, n, e, short) {
         return Err(Fault::NoImage);
     }
     if short {
         return Ok(());
     }
-    if !short_edges(plan, e) || !short_rows(&claimed, n) {
+    if !short_edges(plan, e) || !short_rows(&m, n) {
         return Err(Fault::TooLong);
     }
     Ok(())

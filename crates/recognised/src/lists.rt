@@ -174,19 +174,18 @@ fn direct_delays(plan: &[u8], m: &mut Matrix, e: usize)
     }
 }
 
-// Whether the direct rows are those of the edges.
-pub fn directs_right(plan: &[u8], n: usize, e: usize) -> bool
-    requires { Routed plan.now × (n ≡ members plan.now) × (e ≡ edges plan.now) }
+// Whether the direct rows are those of the edges, worked out in a matrix without paths.
+pub fn directs_right(plan: &[u8], m: &mut Matrix, n: usize, e: usize) -> bool
+    requires { Routed plan.now × (n ≡ members plan.now) × (e ≡ edges plan.now) × Blank m.old.kinds m.old.values }
     ensures { Tells result (Tabled plan.now source_row (directs_at plan.now) 16 (directs plan.now) (direct_first plan.now) (direct_count plan.now) (direct_sources (plan_in plan.now)) n) }
 {
-    let mut m = Matrix::new();
-    direct_delays(plan, &mut m, e);
+    direct_delays(plan, m, e);
     table_right::<Sources>(
         plan,
         rows::number(plan, 32),
         rows::number(plan, 12),
         12,
-        &m,
+        m,
         n,
     )
 }

@@ -9,7 +9,7 @@ use mathlib.Core.List.{List}
 use lib.Dec.{ltb}
 use lib.ListN.{length, get_or}
 use borrow.Author.Tests.{ltb-false}
-use Rattle.basis.specs.Choice.{pick, not}
+use Rattle.basis.specs.Choice.{not}
 use Rattle.states.specs.declared.State.{State}
 use Rattle.states.specs.Steps.{Out, when, or_else, step}
 use Rattle.states.proofs.Memberwise.{else_zero, when-zero}
@@ -17,10 +17,9 @@ use Rattle.states.proofs.Laws.{not_false}
 use Rattle.tags.proofs.Order.{clash}
 use Rattle.rows.specs.Rows.{members}
 use Rattle.rows.specs.Nets.{net_in}
-use Rattle.rows.specs.Plans.{plan_in}
 use Rattle.recognised.specs.declared.Fault.{Fault as Seen}
 use Rattle.recognised.specs.Faults.{fault_no as seen_no}
-use Rattle.recognised.specs.Recognised.{is_image, longer, refusal_in}
+use Rattle.recognised.specs.Recognised.{refusal_in}
 use Rattle.recognised.proofs.Sits.{bytes_of}
 use Rattle.recognised.proofs.Usable.{usable}
 use Rattle.requests.specs.declared.Asked.{Asked}
@@ -75,15 +74,6 @@ unrecognised-no Seen.NoImage = refl
 unrecognised-no Seen.TooLong = refl
 
 -- ---- what no refusal says
-pub too-long : (b : List ℕ) → (refusal_in b ≡ 0 → ⊥) → (refusal_in b ≡ 11 → ⊥) → ◌≡◌ {A = ℕ} 12 (refusal_in b)
-unfolding refusal_in
-too-long b = go (is_image b) (longer (plan_in b))
-  where
-    go : (i l : Bool) → (pick {A = ℕ} i (pick l 12 0) 11 ≡ 0 → ⊥) → (pick {A = ℕ} i (pick l 12 0) 11 ≡ 11 → ⊥) → ◌≡◌ {A = ℕ} 12 (pick i (pick l 12 0) 11)
-    go true true z e = refl
-    go true false z e = absurd (z refl)
-    go false l z e = absurd (e refl)
-
 pub runs_of : (b : List ℕ) → ((i : ℕ) → get_or b i 0 < 256) → refusal_in b ≡ 0 → Runs b
 runs_of b bytes e =
     let u = usable b (bytes_of b bytes) e in

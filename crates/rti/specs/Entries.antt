@@ -65,7 +65,8 @@ judged zero o s slab words = shown o slab words
 judged (suc r) o s slab words = refused_with (suc r) s slab words
 
 -- ---- the entries
--- Opening gives a fresh state, sets each member's 64 slab words to 0 and touches no others. Refused, it gives a state of no members.
+-- Opening gives a fresh state, sets each member's 64 slab words to 0 and touches no others. Refused, it answers no state, and
+-- here a state of no members stands for it.
 unfoldable pub opened : List ℕ → ℕ → List ℕ → Outcome
 opened b identity slab = judged (open_refusal b (length slab)) (start (fresh (members b) identity)) (fresh_state 0 0) slab []
 

@@ -68,7 +68,7 @@ pub enum Row {
 }
 
 // The state, the slab, and how many words are lent of the slab, of deliveries and of a request.
-#[derive(Drop)]
+#[derive(Clone, Copy)]
 pub struct Desk {
     state: State,
     slab: [u64; SLAB],

@@ -21,7 +21,7 @@ pub const MEMBERS: usize = 32;
 pub const WIDTH: usize = 64;
 
 // What a script holds.
-#[derive(Drop)]
+#[derive(Clone, Drop)]
 pub struct Session {
     // the bytes that a line says
     pub scratch: [u8; BYTES],

@@ -40,11 +40,13 @@ fn order(rt: &impl Print, a: Tag, b: Tag) -> io::Result<()> {
         Shown(a.least(b)),
         Shown(a.greatest(b))
     )?;
-    if a < b {
-        print!(rt; " before")?;
-    }
-    if a == b {
-        print!(rt; " equal")?;
+    if a.at_or_before(b) {
+        if a.before(b) {
+            print!(rt; " before")?;
+        }
+        if a.equal(b) {
+            print!(rt; " equal")?;
+        }
     }
     println!(rt)
 }

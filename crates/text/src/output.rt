@@ -1,13 +1,13 @@
 // Answers, gathered in a buffer that is written to standard output when it is full. An error is that of a write that failed, and of
 // nothing else.
-ghost use Rattle.std.specs.Prelude.{◌≡◌, ◌≤◌, ◌∷◌, ℕ, List, OnOk, [], decimal, take};
+ghost use Rattle.std.specs.Prelude.{◌≡◌, ◌≤◌, ◌∷◌, ℕ, List, OnErr, OnOk, [], decimal, take};
 ghost use Rattle.text.specs.Output.{and_byte, and_bytes, glyph_of, hex_of};
 
 use std::io;
 use std::marker::Model;
 
 // What is gathered: the first `held` bytes of the buffer. A contract sees these bytes.
-#[derive(Drop)]
+#[derive(Clone, Drop)]
 pub struct Output<const SIZE: usize> {
     bytes: [u8; SIZE],
     held: usize,
@@ -22,7 +22,7 @@ impl<const SIZE: usize> Model for Output<SIZE> {
 }
 
 // The glyph of a hex digit.
-fn glyph(d: u8) -> u8
+pub fn glyph(d: u8) -> u8
     requires { d ≤ 15 }
     ensures { result ≡ glyph_of d }
 {
@@ -39,9 +39,10 @@ impl<const SIZE: usize> Output<SIZE> {
         }
     }
 
-    // Writes what is gathered; nothing is gathered then.
+    // Writes what is gathered; nothing is gathered then. Where the write fails, all stays gathered.
     pub fn flush(&mut self, rt: &impl Print) -> io::Result<()>
-        ensures { OnOk result (self.new ≡ []) }
+        ensures gone { OnOk result (self.new ≡ []) }
+        ensures kept { OnErr result (self.new ≡ self.old) }
     {
         rt.write_all(&self.bytes[..self.held])?;
         self.held = 0;

@@ -1,8 +1,5 @@
-use Rattle.std.proofs.Common.{arith, rules, get_or, Fits, w64}
 use Rattle.delays.proofs.Plans.{direct-held, minimum-held}
 use Rattle.delays.proofs.minimum_delays.Goals as goal
 
 pub returns : goal.returns
-returns c =
-    let held = direct-held c.args.p _ _ (λ q. let f : Fits w64 (get_or c.direct.result.values q 0) = search rules in omega arith) c.direct.ensures in
-    minimum-held c.args.p c.requires _ _ _ _ (λ q. let f : Fits w64 (get_or c.closed.result.values q 0) = search rules in omega arith) held c.closed.ensures
+returns c = minimum-held c.args.p c.requires _ _ _ _ (direct-held c.args.p _ _ c.spread.ensures) c.close.ensures

@@ -1,7 +1,7 @@
 use Rattle.std.proofs.Common.{arith}
 use Rattle.members.proofs.Typed.{typed}
 use Rattle.kinds.proofs.Ties.{few}
-use Rattle.kinds.proofs.Effects.{keep-done, complete_done, known, deliver-done}
+use Rattle.kinds.proofs.Effects.{no-abort, keep-done, complete_done, known, deliver-done}
 use Rattle.kinds.proofs.effect.Goals as goal
 
 -- `kinds::effect` meets its contract.
@@ -19,4 +19,4 @@ pub returns-in-Payload : goal.returns-in-Payload
 returns-in-Payload c = rw c.in-Payload.is (deliver-done _ c.requires.0 c.args.s _ c.requires.1 c.requires.2 (typed c.args.s _ c.well_formed.1.0).whole c.args.i _ _ _ (rw c.in-Payload.is at c.requires.4) _ _ c.deliver.ensures)
 
 pub returns-in_default : goal.returns-in_default
-returns-in_default c = keep-done _ c.requires.0 c.args.s _ c.requires.1 c.requires.2 (typed c.args.s _ c.well_formed.1.0).whole c.args.i c.args.q _ c.requires.3 c.requires.4 c.in_default.not-Complete c.in_default.not-Payload c.keep.ensures
+returns-in_default c = keep-done _ c.requires.0 c.args.s _ c.requires.1 c.requires.2 (typed c.args.s _ c.well_formed.1.0).whole c.args.i c.args.q _ c.requires.3 c.in_default.not-Complete c.in_default.not-Payload (no-abort _ _ c.args.i c.args.q c.requires.4) c.keep.ensures

@@ -13,4 +13,4 @@ follow-requires c = (c.requires.0.laid, c.requires.0.mild, c.requires.1, fewer-b
 
 pub returns : goal.returns
 unfolding after_in
-returns c = passed _ _ _ _ (sym c.is_hello.ensures ∙ c.if-is_hello.false) c.follow.ensures
+returns c = passed _ _ _ _ (sym c.is_hello.ensures ∙ c.if-is_hello.false) c.follow.ensures.page

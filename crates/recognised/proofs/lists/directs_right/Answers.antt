@@ -2,12 +2,11 @@ use Rattle.std.proofs.Common.{◌∙◌, arith}
 use Rattle.rows.specs.Rows.{direct_first, direct_count}
 use Rattle.delays.specs.Cells.{grid}
 use Rattle.recognised.proofs.Main.{directs-told}
-use Rattle.recognised.proofs.Matrix.{blank-fresh}
 use Rattle.recognised.proofs.Walks.{sources-told}
 use Rattle.recognised.proofs.lists.directs_right.Goals as goal
 
 pub direct_delays-requires : goal.direct_delays-requires
-direct_delays-requires c = (c.requires.0, c.requires.2, rw c.new-m.ensures.kinds (blank-fresh _))
+direct_delays-requires c = (c.requires.0, c.requires.2, c.requires.3)
 
 pub returns : goal.returns
 returns c = let H = c.requires.0.header in

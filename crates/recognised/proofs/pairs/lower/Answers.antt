@@ -1,5 +1,4 @@
-use Rattle.recognised.proofs.Cells.{lowered}
 use Rattle.recognised.proofs.pairs.lower.Goals as goal
 
 pub returns : goal.returns
-returns c = lowered _ _ _ _ _ _ _ _ c.set.ensures.kinds c.set.ensures.values c.set.ensures.number c.lesser.ensures c.get.ensures.number
+returns c = record { here = c.offer.ensures.here; there = c.offer.ensures.there }

@@ -1,6 +1,6 @@
 use Rattle.std.proofs.Common.{arith}
 use Rattle.delays.proofs.Rounds.{holds-none, holds_more}
-use Rattle.delays.proofs.Matrix.closed.Goals as goal
+use Rattle.delays.proofs.Matrix.close.Goals as goal
 
 pub loop-k-init : goal.loop-k-init
 loop-k-init c = holds-none _ _ _
